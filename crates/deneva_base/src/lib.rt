@@ -1,0 +1,35 @@
+//! The plain data that every part of Deneva speaks of: keys, rows, accesses, numbers, configurations, and the one list
+//! type behind every name that ends in `List`.
+#![tactic(auto)]
+
+mod config;
+mod items;
+mod keys;
+mod memory;
+mod numbers;
+mod partitions;
+mod rows;
+#[cfg(test)]
+mod tests;
+mod threads;
+
+pub use config::{Config, Protocol};
+pub use items::{Copied, Items, PushNoMemory};
+pub use keys::{Access, Key, Mode};
+pub use memory::NoMemory;
+pub use numbers::{Attempt, Number, TxnId};
+pub use partitions::part_of;
+pub use rows::{Cell, Keyed};
+
+/// A text of any bytes, or the bytes of a file.
+pub type ByteList = Items<u8>;
+
+pub type CountList = Items<u32>;
+/// The cells of a row, in the order of its table's columns.
+pub type Row = Items<Cell>;
+
+pub type RowList = Items<Keyed>;
+
+pub type AccessList = Items<Access>;
+
+pub type IdList = Items<TxnId>;
