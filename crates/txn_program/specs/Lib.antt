@@ -1,0 +1,3 @@
+pub mod Serial
+pub mod Transactions
+pub mod Valid

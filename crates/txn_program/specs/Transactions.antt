@@ -1,0 +1,71 @@
+-- A transaction as a function: its accesses, its effect on the rows that it reads, and its partitions.
+use Rattle.std.specs.Prelude.{ℕ, zero, suc, ◌==◌, pos, List, [], ◌∷◌, ◌++◌, map, slice_set, Option, Some, None}
+use Rattle.std.specs.List.{list_any, filter, filter_map}
+use Rattle.deneva_base.specs.Modes.{reads}
+use Rattle.deneva_base.specs.Partitions.{partition_of}
+use Rattle.deneva_base.specs.Rows.{row_at}
+use Rattle.deneva_base.specs.declared.keys.Key.{Key}
+use Rattle.deneva_base.specs.declared.keys.Mode as modes
+use Rattle.deneva_base.specs.declared.keys.Mode.TheVariants as mode
+use Rattle.deneva_base.specs.declared.keys.Access.{Access}
+use Rattle.deneva_base.specs.declared.rows.Cell.TheVariants.{Text}
+use Rattle.deneva_base.specs.declared.rows.Keyed.{Keyed}
+use Rattle.deneva_base.specs.declared.numbers.TxnId.{TxnId}
+use Rattle.txn_program.specs.declared.programs.YcsbAct.{YcsbAct}
+use Rattle.txn_program.specs.declared.programs.YcsbAct.TheVariants.{Read, Update, Put}
+use Rattle.txn_program.specs.declared.programs.YcsbStep.{YcsbStep}
+use Rattle.txn_program.specs.declared.programs.Program.{Program}
+use Rattle.txn_program.specs.declared.programs.Program.TheVariants.{Ycsb}
+use Rattle.txn_program.specs.declared.programs.Load.{Load}
+use Rattle.txn_program.specs.declared.effects.Verdict.TheVariants.{Commit}
+use Rattle.txn_program.specs.declared.effects.Effect.{Effect}
+
+-- the key of a YCSB row
+abbrev pub ycsb_key : ℕ → Key
+ycsb_key n = record { table = 0; a = n; b = 0; c = 0 }
+
+abbrev pub mode_of : YcsbAct → modes.Mode
+mode_of Read = mode.Read
+mode_of (Update put) = mode.Update
+mode_of (Put row) = mode.Put
+
+abbrev pub access_of : YcsbStep → Access
+access_of step = record { key = ycsb_key step.key; mode = mode_of step.act }
+
+-- the accesses of a transaction, in its order
+abbrev pub accesses : Load → Program → List Access
+accesses load (Ycsb steps) = map access_of steps
+
+-- those that read
+abbrev pub reading : List Access → List Access
+reading list = filter (λ a. reads a.mode) list
+
+-- what is written to a key, where the transaction reads these rows: an Update its row with one field replaced, a Put its own
+abbrev pub written_to : List Keyed → Key → YcsbAct → Option Keyed
+written_to rows key Read = None
+written_to rows key (Update put) = Some (record { key = key; row = slice_set (row_at rows key) put.field (Text put.text) })
+written_to rows key (Put row) = Some (record { key = key; row = row })
+
+abbrev pub written : List Keyed → YcsbStep → Option Keyed
+written rows step = written_to rows (ycsb_key step.key) step.act
+
+-- what a transaction makes of the rows of its accesses that read
+abbrev pub effect : Load → TxnId → Program → List Keyed → Effect
+effect load id (Ycsb steps) rows = record { verdict = Commit; writes = filter_map (written rows) steps; appends = []; answer = pos 0 }
+
+abbrev pub first_key : List Access → Key
+first_key [] = ycsb_key 0
+first_key (a ∷ more) = a.key
+
+-- the partition of the first access
+abbrev pub home_of : Load → Program → ℕ → ℕ
+home_of load program parts = partition_of (first_key (accesses load program)) parts
+
+-- 0, 1 and so on, all below n
+abbrev pub numbers_below : ℕ → List ℕ
+numbers_below zero = []
+numbers_below (suc n) = numbers_below n ++ n ∷ []
+
+-- the partitions of the accesses, in rising order
+abbrev pub participants : Load → Program → ℕ → List ℕ
+participants load program parts = filter (λ p. list_any (λ a. partition_of a.key parts == p) (accesses load program)) (numbers_below parts)

@@ -1,0 +1,25 @@
+//! Transactions as functions: what each accesses, what it makes of the rows that it reads, and where it lives.
+#![tactic(auto)]
+
+mod accesses;
+mod effects;
+mod programs;
+mod serial;
+#[cfg(test)]
+mod tests;
+mod threads;
+mod validity;
+
+pub use accesses::{accesses_of, home, ycsb_key_of};
+use deneva_base::Items;
+pub use effects::{Effect, Reason, Verdict, effect_of};
+pub use programs::{Load, Program, WorkKind, Workload, YcsbAct, YcsbPut, YcsbStep};
+pub use serial::{SerialRun, SerialTxn};
+pub use validity::valid;
+
+/// The steps of a YCSB transaction.
+pub type StepList = Items<YcsbStep>;
+/// The transactions of a workload, in the order of their ids.
+pub type ProgramList = Items<Program>;
+/// What each transaction of a serial run did, in the order of execution.
+pub type SerialList = Items<SerialTxn>;

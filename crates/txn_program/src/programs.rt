@@ -1,0 +1,103 @@
+//! Workloads: what is loaded, and the transactions that run over it.
+ghost use Rattle.std.specs.Prelude.{◌≡◌, IfOk};
+
+use crate::{ProgramList, StepList};
+use deneva_base::{ByteList, Copied, NoMemory, Row, RowList};
+use std::alloc::Global;
+
+/// A new text for one field of a row.
+#[derive(Debug, Drop)]
+pub struct YcsbPut {
+    /// The field's place in the row, counted from 0.
+    pub field: u8,
+    pub text: ByteList,
+}
+
+impl Copied for YcsbPut {
+    fn copied(&self, alloc: Global) -> Result<YcsbPut, NoMemory> {
+        let text = self.text.copy(alloc)?;
+        Ok(YcsbPut {
+            field: self.field,
+            text,
+        })
+    }
+}
+
+/// What a step does with its row.
+#[derive(Debug, Drop)]
+pub enum YcsbAct {
+    Read,
+    /// Replaces one field and keeps the others.
+    Update(YcsbPut),
+    /// Replaces the whole row, which is not read.
+    Put(Row),
+}
+
+impl Copied for YcsbAct {
+    fn copied(&self, alloc: Global) -> Result<YcsbAct, NoMemory> {
+        match self {
+            YcsbAct::Read => Ok(YcsbAct::Read),
+            YcsbAct::Update(put) => {
+                let put = put.copied(alloc)?;
+                Ok(YcsbAct::Update(put))
+            }
+            YcsbAct::Put(row) => {
+                let row = row.copy(alloc)?;
+                Ok(YcsbAct::Put(row))
+            }
+        }
+    }
+}
+
+/// One step of a YCSB transaction.
+#[derive(Debug, Drop)]
+pub struct YcsbStep {
+    pub key: u32,
+    pub act: YcsbAct,
+}
+
+impl Copied for YcsbStep {
+    fn copied(&self, alloc: Global) -> Result<YcsbStep, NoMemory> {
+        let act = self.act.copied(alloc)?;
+        Ok(YcsbStep { key: self.key, act })
+    }
+}
+
+/// One transaction.
+#[derive(Debug, Drop)]
+pub enum Program {
+    Ycsb(StepList),
+}
+
+impl Copied for Program {
+    fn copied(&self, alloc: Global) -> Result<Program, NoMemory> {
+        match self {
+            Program::Ycsb(steps) => {
+                let steps = steps.copy(alloc)?;
+                Ok(Program::Ycsb(steps))
+            }
+        }
+    }
+}
+
+/// The kind of a workload.
+#[derive(Clone, Copy, Debug, PartialEq, Eq)]
+pub enum WorkKind {
+    Ycsb,
+}
+
+/// What stands in the store before the first transaction.
+#[derive(Debug, Drop)]
+pub struct Load {
+    pub kind: WorkKind,
+    /// The number of fields of each YCSB row, 1 to 10.
+    pub fields: u8,
+    pub rows: RowList,
+}
+
+/// A load and the transactions that run over it: transaction 1 is the first of `programs`.
+#[derive(Debug, Drop)]
+pub struct Workload {
+    pub load: Load,
+    pub programs: ProgramList,
+}

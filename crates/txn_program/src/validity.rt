@@ -1,0 +1,235 @@
+//! Which workloads are valid.
+ghost use Rattle.std.specs.Prelude.{◌≡◌, ◌&&◌, true, map};
+ghost use Rattle.std.specs.List.{list_all, list_any};
+ghost use Rattle.deneva_base.specs.Keys.{key_eq};
+ghost use Rattle.deneva_base.specs.Rising.{keys_rise, rise_after};
+ghost use Rattle.deneva_base.specs.Rows.{has_key};
+ghost use Rattle.txn_program.specs.Transactions.{ycsb_key};
+ghost use Rattle.txn_program.specs.Valid.{are_distinct, is_plain, is_row, is_text, is_text_cell, is_valid, is_valid_act, is_valid_load, is_valid_program, is_valid_row, is_valid_step, is_ycsb_key};
+
+use crate::accesses::ycsb_key_of;
+use crate::programs::{Load, Program, Workload, YcsbAct, YcsbStep};
+use deneva_base::{Cell, Key, Keyed};
+
+/// Whether each byte of a text stands for itself in a field of a file.
+fn all_plain(text: &[u8]) -> bool
+    ensures { result ≡ list_all is_plain text.now }
+{
+    text.iter().all(|b| !(*b == b',' || *b == b'"' || *b == b'\n' || *b == b'\r'))
+}
+
+/// Whether a file can hold this text in a field.
+fn fits_text(text: &[u8]) -> bool
+    ensures { result ≡ is_text text.now }
+{
+    text.len() <= 100 && all_plain(text)
+}
+
+fn fits_cell(cell: &Cell) -> bool
+    ensures { result ≡ is_text_cell cell.now }
+{
+    match cell {
+        Cell::Num(_) => false,
+        Cell::Text(text) => fits_text(text.as_slice()),
+    }
+}
+
+fn are_texts(row: &[Cell]) -> bool
+    ensures { result ≡ list_all is_text_cell row.now }
+{
+    row.iter().all(|cell| fits_cell(cell))
+}
+
+/// Whether the row has a text for each field.
+fn fits_row(fields: u8, row: &[Cell]) -> bool
+    ensures { result ≡ is_row fields row.now }
+{
+    row.len() == usize::from(fields) && are_texts(row)
+}
+
+/// Whether the key is that of some YCSB row.
+fn is_row_key(key: Key) -> bool
+    ensures { result ≡ is_ycsb_key key }
+{
+    key.table == 0 && key.b == 0 && key.c == 0
+}
+
+fn fits_keyed(fields: u8, keyed: &Keyed) -> bool
+    ensures { result ≡ is_valid_row fields keyed.now }
+{
+    is_row_key(keyed.key) && fits_row(fields, keyed.row.as_slice())
+}
+
+fn fits_rows(fields: u8, rows: &[Keyed]) -> bool
+    ensures { result ≡ list_all (is_valid_row fields) rows.now }
+{
+    rows.iter().all(|keyed| fits_keyed(fields, keyed))
+}
+
+/// Whether a row of so many fields can take what the step writes.
+fn fits_act(fields: u8, act: &YcsbAct) -> bool
+    ensures { result ≡ is_valid_act fields act.now }
+{
+    match act {
+        YcsbAct::Read => true,
+        YcsbAct::Update(put) => put.field < fields && fits_text(put.text.as_slice()),
+        YcsbAct::Put(row) => fits_row(fields, row.as_slice()),
+    }
+}
+
+/// Whether the keys of the rows strictly rise from `key`, without it.
+fn rises_after(key: Key, rows: &[Keyed]) -> bool
+    ensures { result ≡ rise_after key rows.now }
+{
+    let mut last = key;
+    for row in rows {
+        if last >= row.key {
+            return false;
+        }
+        last = row.key;
+    }
+    true
+}
+
+fn rises(rows: &[Keyed]) -> bool
+    ensures { result ≡ keys_rise rows.now }
+{
+    match rows {
+        [] => true,
+        [first, rest @ ..] => rises_after(first.key, rest),
+    }
+}
+
+fn has_row(rows: &[Keyed], key: Key) -> bool
+    ensures { result ≡ has_key rows.now key }
+{
+    rows.iter().any(|row| row.key == key)
+}
+
+/// Whether no two rows have one key, found by comparing each with each.
+fn rows_are_apart(rows: &[Keyed]) -> bool
+    ensures { result ≡ are_distinct (map (λ r. r.key) rows.now) }
+{
+    for (index, row) in rows.iter().enumerate() {
+        if has_row(&rows[index + 1..], row.key) {
+            return false;
+        }
+    }
+    true
+}
+
+fn has_step(steps: &[YcsbStep], key: Key) -> bool
+    ensures { result ≡ list_any (λ step. key_eq (ycsb_key step.key) key) steps.now }
+{
+    steps.iter().any(|step| ycsb_key_of(step.key) == key)
+}
+
+fn steps_are_apart(steps: &[YcsbStep]) -> bool
+    ensures { result ≡ are_distinct (map (λ step. ycsb_key step.key) steps.now) }
+{
+    for (index, step) in steps.iter().enumerate() {
+        if has_step(&steps[index + 1..], ycsb_key_of(step.key)) {
+            return false;
+        }
+    }
+    true
+}
+
+/// Whether some row has this key, found by halves where the keys strictly rise.
+fn has_rising_row(rows: &[Keyed], key: Key) -> bool
+    requires { keys_rise rows.now ≡ true }
+    ensures { result ≡ has_key rows.now key }
+{
+    rows.binary_search_by_key(&key, |row| row.key).is_ok()
+}
+
+/// A load, and whether the keys of its rows strictly rise: where they do, each key is looked up by halves.
+#[derive(Drop)]
+struct LoadView<'a> {
+    load: &'a Load,
+    rising: bool,
+    ghost order: { rising ≡ keys_rise load.now.rows },
+}
+
+impl<'a> LoadView<'a> {
+    fn of(load: &'a Load) -> LoadView<'a>
+        ensures { result.load.now ≡ load.now }
+    {
+        LoadView {
+            load,
+            rising: rises(load.rows.as_slice()),
+        }
+    }
+
+    fn has(&self, key: Key) -> bool
+        ensures { result ≡ has_key self.now.load.now.rows key }
+    {
+        let rows = self.load.rows.as_slice();
+        if self.rising {
+            has_rising_row(rows, key)
+        } else {
+            has_row(rows, key)
+        }
+    }
+
+    fn are_rows_apart(&self) -> bool
+        ensures { result ≡ are_distinct (map (λ r. r.key) self.now.load.now.rows) }
+    {
+        self.rising || rows_are_apart(self.load.rows.as_slice())
+    }
+
+    /// Whether the load is valid.
+    fn fits(&self) -> bool
+        ensures { result ≡ is_valid_load self.now.load.now }
+    {
+        let rows = self.load.rows.as_slice();
+        let fields = self.load.fields;
+        1 <= fields
+            && fields <= 10
+            && rows.len() <= 1_000_000
+            && fits_rows(fields, rows)
+            && self.are_rows_apart()
+    }
+
+    fn fits_step(&self, step: &YcsbStep) -> bool
+        ensures { result ≡ is_valid_step self.now.load.now step.now }
+    {
+        self.has(ycsb_key_of(step.key)) && fits_act(self.load.fields, &step.act)
+    }
+
+    fn fits_steps(&self, steps: &[YcsbStep]) -> bool
+        ensures { result ≡ list_all (is_valid_step self.now.load.now) steps.now }
+    {
+        steps.iter().all(|step| self.fits_step(step))
+    }
+
+    fn fits_program(&self, program: &Program) -> bool
+        ensures { result ≡ is_valid_program self.now.load.now program.now }
+    {
+        match program {
+            Program::Ycsb(steps) => {
+                1 <= steps.len()
+                    && steps.len() <= 16
+                    && self.fits_steps(steps.as_slice())
+                    && steps_are_apart(steps.as_slice())
+            }
+        }
+    }
+
+    fn fits_programs(&self, programs: &[Program]) -> bool
+        ensures { result ≡ list_all (is_valid_program self.now.load.now) programs.now }
+    {
+        programs.iter().all(|program| self.fits_program(program))
+    }
+}
+
+/// Whether some file gives this workload: 1 to 10 fields, at most 1,000,000 rows of so many plain texts, each with a key
+/// of its own, and at most 10,000 transactions of 1 to 16 steps, each on a loaded key that no other step of its
+/// transaction has. Where the keys of the rows strictly rise, as a reader of files leaves them, this takes one pass over
+/// the rows and a binary search for each step; else its time grows with the square of the number of rows.
+pub fn valid(work: &Workload) -> bool
+    ensures { result ≡ is_valid work.now }
+{
+    let load = LoadView::of(&work.load);
+    load.fits() && work.programs.len() <= 10_000 && load.fits_programs(work.programs.as_slice())
+}
