@@ -1,0 +1,17 @@
+-- The text of records, piece by piece.
+use Rattle.std.proofs.Common.{◌≡◌, ◌∙◌, ℕ, List, [], ◌∷◌, ◌++◌, refl, ap, sym, append_assoc, append-nil}
+use Rattle.std.specs.List.{join_with_byte}
+use Rattle.deneva_top.specs.Records.{Record, line_of, text_of}
+use Rattle.deneva_top.specs.ReportText.{field_texts}
+
+joined : (w : List ℕ) (more : Record) → join_with_byte 44 (w ∷ more) ≡ w ++ field_texts more
+joined w [] = sym (append-nil w)
+joined w (f ∷ more) = ap (λ (t : List ℕ). w ++ 44 ∷ t) (joined f more)
+
+-- a record's line is its first field, the others each after a comma, and a line feed
+pub line_of-cons : (w : List ℕ) (more : Record) → line_of (w ∷ more) ≡ w ++ field_texts more ++ 10 ∷ []
+line_of-cons w more = ap (λ (t : List ℕ). t ++ 10 ∷ []) (joined w more)
+
+pub text_of-append : (rs more : List Record) → text_of (rs ++ more) ≡ text_of rs ++ text_of more
+text_of-append [] more = refl
+text_of-append (r ∷ rs) more = ap (λ (t : List ℕ). line_of r ++ t) (text_of-append rs more) ∙ sym (append_assoc (line_of r) (text_of rs) (text_of more))

@@ -1,0 +1,54 @@
+-- What the top call answers and writes.
+use Rattle.std.specs.Prelude.{◌≡◌, ℕ, ◌≤◌, List, [], ◌∷◌, if◌then◌else◌, codes, decimal, Option, Some, None, Ok, Err}
+use Rattle.std.specs.Str.{bytes_eq}
+use Rattle.deneva_io.specs.Streams.{Rose, IsOver}
+use Rattle.txn_program.specs.declared.programs.Workload.{Workload}
+use Rattle.txn_program.specs.Serial.{serial, all_ids}
+use Rattle.deneva_top.specs.declared.words.Command.{Command}
+use Rattle.deneva_top.specs.declared.words.Command.TheVariants.{Serial}
+use Rattle.deneva_top.specs.declared.workload_text.faults.FaultKind.{FaultKind}
+use Rattle.deneva_top.specs.declared.workload_text.faults.FaultKind.TheVariants.{Magic, Kind, Arity, NotANumber, OutOfRange, UnknownKey, Repeated, TooMany, NoEnd, Trailing, TooLong}
+use Rattle.deneva_top.specs.declared.workload_text.faults.InputFault.{InputFault}
+use Rattle.deneva_top.specs.Sources.{InputIs, IsReadUnless}
+use Rattle.deneva_top.specs.Records.{Record, line_of}
+use Rattle.deneva_top.specs.ReportText.{serial_report}
+
+-- the command that words give, if they give one: exactly the word `serial`
+abbrev pub command_of : List (List ℕ) → Option Command
+command_of [] = None
+command_of (word ∷ []) = if bytes_eq word (codes "serial") then Some Serial else None
+command_of (word ∷ other ∷ words) = None
+
+-- the last fields of a fault
+abbrev pub kind_fields : FaultKind → Record
+kind_fields Magic = codes "magic" ∷ []
+kind_fields Kind = codes "kind" ∷ []
+kind_fields Arity = codes "arity" ∷ []
+kind_fields NotANumber = codes "notanumber" ∷ []
+kind_fields OutOfRange = codes "outofrange" ∷ []
+kind_fields UnknownKey = codes "unknownkey" ∷ []
+kind_fields Repeated = codes "repeated" ∷ []
+kind_fields (TooMany limit) = codes "toomany" ∷ decimal limit ∷ []
+kind_fields NoEnd = codes "noend" ∷ []
+kind_fields Trailing = codes "trailing" ∷ []
+kind_fields TooLong = codes "toolong" ∷ []
+
+abbrev pub fault_record : InputFault → Record
+fault_record f = codes "fault" ∷ codes "input" ∷ decimal f.record_no ∷ decimal f.field_no ∷ kind_fields f.kind
+
+-- the line that names the first fault of an input
+abbrev pub fault_line : InputFault → List ℕ
+fault_line f = line_of (fault_record f)
+
+-- the report of the serial execution, in file order, of a workload
+abbrev pub report_of : Workload → List ℕ
+report_of work = serial_report (serial work (all_ids work))
+
+-- what a call answers before it writes: its status and its text, where the source told these bytes left and counted these faults, before and after
+pub record Answers (words : List (List ℕ)) (bytes bytes_now : Option (List ℕ)) (faults faults_now : ℕ) (status : ℕ) (text : List ℕ) : Type 0 where
+  pub known : status ≤ 4
+  pub report : status ≡ 0 → (command_of words ≡ Some Serial) × IsOver bytes_now × ((work : Workload) × InputIs bytes (Ok work) × (text ≡ report_of work))
+  pub memory : status ≡ 1 → text ≡ codes "fault,memory\n"
+  pub refused : status ≡ 2 → (command_of words ≡ None) × (text ≡ codes "fault,words\n")
+  pub input : status ≡ 3 → (command_of words ≡ Some Serial) × ((f : InputFault) × InputIs bytes (Err f) × IsReadUnless f bytes_now × (text ≡ fault_line f))
+  pub read : status ≡ 4 → (command_of words ≡ Some Serial) × Rose faults faults_now × (text ≡ codes "fault,read\n")

@@ -1,0 +1,15 @@
+//! The top calls of Deneva.
+#![tactic(auto)]
+
+mod calls;
+mod fault_text;
+mod ordered_rows;
+mod report;
+pub mod serial_model;
+mod words;
+pub mod workload_text;
+
+pub use calls::{Ended, deneva};
+
+#[cfg(test)]
+mod tests;

@@ -1,0 +1,17 @@
+//! Laws of workload files: each function does nothing, and its contract is the law.
+ghost use Rattle.std.specs.Prelude.{◌≡◌, ℕ, List, Ok};
+ghost use Rattle.txn_program.specs.Valid.{IsValid};
+ghost use Rattle.txn_program.specs.declared.programs.Workload.{Workload};
+ghost use Rattle.deneva_top.specs.Files.{IsRising, AreNumbers, in_order};
+ghost use Rattle.deneva_top.specs.Grammar.{workload_of};
+
+/// The workload that a file gives is valid, and its rows stand in strictly rising key order.
+pub fn files_are_valid()
+    ensures valid { (bytes : List ℕ) (work : Workload) → workload_of bytes ≡ Ok work → IsValid work }
+    ensures order { (bytes : List ℕ) (work : Workload) → workload_of bytes ≡ Ok work → IsRising work.load.rows }
+{}
+
+/// Some text of the grammar, of whatever length, gives each valid workload, up to the order of its load's rows.
+pub fn valid_workloads_have_files()
+    ensures { (work : Workload) → IsValid work → AreNumbers work → (bytes : List ℕ) × (workload_of bytes ≡ Ok (in_order work)) }
+{}

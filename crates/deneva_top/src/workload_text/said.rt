@@ -1,0 +1,13 @@
+//! What a record of a workload file says.
+use deneva_base::Keyed;
+use txn_program::Program;
+
+/// What a record after the head says.
+#[derive(Debug, Drop)]
+pub enum Said {
+    /// A row to be loaded.
+    Loads(Keyed),
+    /// The next transaction.
+    Runs(Program),
+    Ends,
+}
