@@ -1,0 +1,39 @@
+//! The program `deneva`: its words are its arguments, its input is standard input, and its answer goes to standard output.
+#![tactic(auto)]
+
+use deneva_base::NoMemory;
+use deneva_io::{ReadSource, WriteSink};
+use deneva_top::deneva;
+use std::env;
+use std::io::ErrorKind;
+use std::process::ExitCode;
+
+/// The statuses of a call that could not be made for want of memory: its line was written, or it was not.
+const NO_MEMORY: u8 = 1;
+
+const SINK_FAULT: u8 = 5;
+
+/// The arguments behind the program's name. Arguments that are no UTF-8 text give no words, and so no command.
+fn words_of(rt: &HostRuntime) -> Result<Vec<String>, NoMemory> {
+    match env::args(rt) {
+        Ok(args) => {
+            let words = args.skip(1).collect(rt.alloc())?;
+            Ok(words)
+        }
+        Err(error) if error.kind() == ErrorKind::InvalidData => Ok(Vec::new(rt.alloc())),
+        Err(_) => Err(NoMemory),
+    }
+}
+
+fn main(rt: HostRuntime) -> ExitCode {
+    let Ok(words) = words_of(&rt) else {
+        return match rt.print("fault,memory\n") {
+            Ok(()) => ExitCode::from(NO_MEMORY),
+            Err(_) => ExitCode::from(SINK_FAULT),
+        };
+    };
+    let mut source = ReadSource::new(rt.stdin());
+    let mut sink = WriteSink::new(rt.stdout());
+    let ended = deneva(rt.alloc(), &words, &mut source, &mut sink);
+    ExitCode::from(ended.status)
+}
