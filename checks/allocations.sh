@@ -1,9 +1,10 @@
 #!/bin/sh
-# Makes the first, the second and so on allocation of a small run fail, up to the given number (20): the answer is the whole
-# report with status 0 (a list that may not grow by as much as it asks for asks for less), or `fault,memory` with status 1,
-# and never another. Each turn builds the program anew and takes about half a minute.
+# Makes the first, the second and so on allocation of a small run fail, up to the given number (60; the run makes 55 where
+# none fails): the answer is the whole report with status 0, or `fault,memory` with status 1, and never another. A number
+# past the last allocation gives the report, and so do some before it. Each turn builds the program anew and takes about
+# half a minute.
 set -u
-most=${1:-20}
+most=${1:-60}
 cd "$(dirname "$0")/../crates/deneva" || exit 1
 work=$(mktemp -d)
 trap 'rm -rf "$work"' EXIT
