@@ -1,5 +1,5 @@
 -- What an access does with its row.
-use Rattle.std.specs.Prelude.{Bool, true, false}
+use Rattle.std.specs.Prelude.{◌≢◌, Bool, true, false}
 use Rattle.deneva_base.specs.declared.keys.Mode.{Mode}
 use Rattle.deneva_base.specs.declared.keys.Mode.TheVariants.{Read, Update, Put}
 
@@ -14,3 +14,10 @@ abbrev pub writes : Mode → Bool
 writes Read = false
 writes Update = true
 writes Put = true
+
+-- the same as facts
+abbrev pub IsReading : Mode → Type 0
+IsReading m = m ≢ Put
+
+abbrev pub IsWriting : Mode → Type 0
+IsWriting m = m ≢ Read

@@ -1,11 +1,29 @@
--- A finite map from keys to rows, seen as its rows in key order.
-use Rattle.std.specs.Prelude.{List, [], ◌∷◌, map, Bool, if◌then◌else◌}
+-- Rows by their keys, and a finite map from keys to rows seen as its rows in key order.
+use Rattle.std.specs.Prelude.{List, [], ◌∷◌, map, Bool, if◌then◌else◌, Option, Some, None}
 use Rattle.std.specs.List.{list_any}
 use Rattle.std.specs.Ordering.{match_ordering}
 use Rattle.deneva_base.specs.Keys.{key_eq, key_cmp}
 use Rattle.deneva_base.specs.declared.keys.Key.{Key}
 use Rattle.deneva_base.specs.declared.rows.Cell.{Cell}
 use Rattle.deneva_base.specs.declared.rows.Keyed.{Keyed}
+
+-- the cells of a row
+abbrev pub Row : Type 0
+Row = List Cell
+
+-- the row of each key that has one
+abbrev pub Rows : Type 0
+Rows = Key → Option Row
+
+-- the row, and no cells where there is none
+abbrev pub row_or_empty : Option Row → Row
+row_or_empty None = []
+row_or_empty (Some row) = row
+
+-- these rows by their keys, the first where two have one key
+abbrev pub row_of : List Keyed → Rows
+row_of [] key = None
+row_of (r ∷ rows) key = if key_eq r.key key then Some r.row else row_of rows key
 
 -- some row has this key
 abbrev pub has_key : List Keyed → Key → Bool
@@ -36,3 +54,11 @@ keyed e = record { key = e.0; row = e.1 }
 
 abbrev pub rows_in : List (Key × List Cell) → List Keyed
 rows_in entries = map keyed entries
+
+-- rows by their keys, after one row was put, and after these were, one after another
+abbrev pub put_row : Rows → Keyed → Rows
+put_row rows w key = if key_eq w.key key then Some w.row else rows key
+
+abbrev pub put_rows : Rows → List Keyed → Rows
+put_rows rows [] = rows
+put_rows rows (w ∷ ws) = put_rows (put_row rows w) ws

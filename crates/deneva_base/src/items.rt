@@ -128,6 +128,16 @@ impl<T> Items<T> {
     }
 }
 
+impl<T: Drop> Items<T> {
+    /// Moves the items of a list to the end: all of them, or none.
+    pub fn append(&mut self, mut more: Items<T>) -> Result<(), NoMemory>
+        ensures ok { OnOk result (self.new ≡ self.old ++ more) }
+        ensures err { OnErr result (self.new ≡ self.old) }
+    {
+        Ok(self.items.append(&mut more.items)?)
+    }
+}
+
 impl<T: Copied> Items<T> {
     /// A copy of the list and of each item.
     pub fn copy(&self, alloc: Global) -> Result<Items<T>, NoMemory>

@@ -1,10 +1,13 @@
-//! The plain data that every part of Deneva speaks of: keys, rows, accesses, numbers, configurations, and the one list
-//! type behind every name that ends in `List`.
+//! The plain data that every part of Deneva speaks of: keys, rows, accesses, numbers, configurations, the answers of
+//! concurrency controls, and the one list type behind every name that ends in `List`.
 #![tactic(auto)]
 
+mod answers;
+mod causes;
 mod config;
 mod items;
 mod keys;
+mod laws;
 mod memory;
 mod numbers;
 mod partitions;
@@ -13,9 +16,12 @@ mod rows;
 mod tests;
 mod threads;
 
+pub use answers::{Answer, Vote, Wake};
+pub use causes::{Bound, Cause};
 pub use config::{Config, Protocol};
 pub use items::{Copied, Items, PushNoMemory};
 pub use keys::{Access, Key, Mode};
+pub use laws::{maat_laws, mvcc_laws, no_wait_laws, rules_serve, timestamp_laws, wait_die_laws};
 pub use memory::NoMemory;
 pub use numbers::{Attempt, Number, TxnId};
 pub use partitions::part_of;
@@ -33,3 +39,5 @@ pub type RowList = Items<Keyed>;
 pub type AccessList = Items<Access>;
 
 pub type IdList = Items<TxnId>;
+
+pub type Woken = Items<Wake>;

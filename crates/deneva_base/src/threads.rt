@@ -1,7 +1,8 @@
 //! Workers may move and share what this crate declares: each call below asks the check for it.
 
 use crate::{
-    Access, Attempt, Cell, Config, Items, Key, Keyed, Mode, NoMemory, Number, Protocol, TxnId,
+    Access, Answer, Attempt, Bound, Cause, Cell, Config, Items, Key, Keyed, Mode, NoMemory, Number,
+    Protocol, PushNoMemory, TxnId, Vote, Wake,
 };
 
 fn crosses<X: Send + Sync>() {}
@@ -13,7 +14,10 @@ fn cross<X: Send + Sync>() {
 /// Each type may be moved to another thread and shared between threads.
 fn may_cross_threads() {
     crosses::<Access>();
+    crosses::<Answer>();
     crosses::<Attempt>();
+    crosses::<Bound>();
+    crosses::<Cause>();
     crosses::<Cell>();
     crosses::<Config>();
     crosses::<Key>();
@@ -22,6 +26,9 @@ fn may_cross_threads() {
     crosses::<NoMemory>();
     crosses::<Number>();
     crosses::<Protocol>();
+    crosses::<PushNoMemory<Keyed>>();
     crosses::<TxnId>();
+    crosses::<Vote>();
+    crosses::<Wake>();
     cross::<Keyed>();
 }
