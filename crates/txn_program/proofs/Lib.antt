@@ -1,2 +1,10 @@
 pub mod Distinct
+pub mod DistinctLists
+pub mod FitPrograms
+pub mod Ids
+pub mod Loads
+pub mod Members
+pub mod Participants
+pub mod ReadRows
 pub mod ValidPrograms
+pub mod WorkloadLaws

@@ -1,3 +1,6 @@
+pub mod Apart
+pub mod InWorkload
 pub mod Serial
 pub mod Transactions
 pub mod Valid
+pub mod WellFormed

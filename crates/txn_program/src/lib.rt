@@ -3,6 +3,7 @@
 
 mod accesses;
 mod effects;
+mod laws;
 mod programs;
 mod serial;
 #[cfg(test)]
@@ -13,6 +14,10 @@ mod validity;
 pub use accesses::{accesses_of, home, ycsb_key_of};
 use deneva_base::Items;
 pub use effects::{Effect, Reason, Verdict, effect_of};
+pub use laws::{
+    accesses_are_lawful, effects_are_lawful, ids_are_lawful, loads_are_lawful,
+    participants_are_lawful,
+};
 pub use programs::{Load, Program, WorkKind, Workload, YcsbAct, YcsbPut, YcsbStep};
 pub use serial::{SerialRun, SerialTxn};
 pub use validity::valid;

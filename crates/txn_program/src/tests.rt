@@ -66,7 +66,7 @@ fn work_of(alloc: Global, load: Load, steps: StepList) -> Result<Workload, NoMem
     Ok(Workload { load, programs })
 }
 
-/// A step that replaces a field, here of row 2.
+/// A step that replaces a field of the row of key 2.
 fn update(alloc: Global, field: u8, text: &[u8]) -> Result<YcsbStep, NoMemory> {
     let text = ByteList::from_bytes(alloc, text)?;
     Ok(YcsbStep {
@@ -75,7 +75,7 @@ fn update(alloc: Global, field: u8, text: &[u8]) -> Result<YcsbStep, NoMemory> {
     })
 }
 
-/// A step that replaces row 3.
+/// A step that replaces the row of key 3.
 fn put(alloc: Global, width: u8, text: &[u8]) -> Result<YcsbStep, NoMemory> {
     Ok(YcsbStep {
         key: 3,
@@ -83,14 +83,15 @@ fn put(alloc: Global, width: u8, text: &[u8]) -> Result<YcsbStep, NoMemory> {
     })
 }
 
-/// A workload over three rows of two fields, whose transaction reads row 1 and then takes this step.
+/// A workload over three rows of two fields, whose transaction reads the row of key 1 and then takes this step.
 fn work_with(alloc: Global, step: YcsbStep) -> Result<Workload, NoMemory> {
     let mut steps = steps_of(alloc, &[1])?;
     steps.push(step)?;
     work_of(alloc, load_of(alloc, 2, &[1, 2, 3], 2, b"a")?, steps)
 }
 
-/// A transaction that reads row 1, replaces the second field of row 2, and replaces row 3.
+/// A transaction that reads the row of key 1, replaces the second field of the row of key 2, and replaces the row of
+/// key 3.
 fn three_steps(alloc: Global) -> Result<Program, NoMemory> {
     let mut steps = steps_of(alloc, &[1])?;
     steps.push(update(alloc, 1, b"z")?)?;
