@@ -1,0 +1,4 @@
+pub mod Callers
+mod InOrder
+mod Loading
+pub mod Tables
