@@ -1,0 +1,4 @@
+pub mod Checks
+pub mod TwoRows
+pub mod Listing
+pub mod Preparing

@@ -1,0 +1,14 @@
+pub mod Places
+pub mod Steps
+pub mod Puts
+pub mod Asking
+pub mod Ending
+pub mod Closing
+pub mod Answering
+pub mod Voting
+pub mod Calls
+pub mod NoWaiting
+pub mod Outcomes
+pub mod Waking
+pub mod Fronts
+pub mod Dying
