@@ -1,0 +1,12 @@
+-- The laws are lemmas.
+use Rattle.server_core.proofs.Limiteds.{limits}
+use Rattle.server_core.proofs.ValidSettings.{valid, naming, waits}
+use Rattle.server_core.proofs.settings.settings_are_valid.Goals as goal
+
+pub returns : goal.returns
+returns c = record {
+  valid = valid;
+  limits = limits;
+  naming = λ c w votes. naming c.protocol votes;
+  waits = λ c w votes. waits c.protocol votes;
+}

@@ -1,0 +1,37 @@
+//! What holds of every run of a voting protocol, whatever the configuration, the valid workload and the order of
+//! deliveries.
+ghost use Rattle.std.specs.Prelude.{◌≡◌, ◌≤◌, List, length};
+ghost use Rattle.deneva_base.specs.Partitions.{partition_of};
+ghost use Rattle.deneva_base.specs.Rows.{row_of};
+ghost use Rattle.deneva_base.specs.declared.config.Config.{Config};
+ghost use Rattle.deneva_base.specs.declared.keys.Key.{Key};
+ghost use Rattle.txn_program.specs.Valid.{IsValid};
+ghost use Rattle.txn_program.specs.declared.programs.Workload.{Workload};
+ghost use Rattle.server_core.specs.Atomic.{IsAtomic};
+ghost use Rattle.server_core.specs.Configs.{IsConfig, IsVoting};
+ghost use Rattle.server_core.specs.Fits.{AllFitting};
+ghost use Rattle.server_core.specs.IsSerial.{IsSerial};
+ghost use Rattle.server_core.specs.Named.{AllNamed};
+ghost use Rattle.server_core.specs.NodeRows.{node_rows};
+ghost use Rattle.server_core.specs.Outcome.{outcome};
+ghost use Rattle.server_core.specs.Picks.{most_entries, picked};
+ghost use Rattle.server_core.specs.Runs.{heard};
+ghost use Rattle.server_core.specs.Says.{IsRun, IsQuiet};
+ghost use Rattle.server_core.specs.Setting.{setting};
+ghost use Rattle.server_core.specs.declared.messages.Entry.{Entry};
+ghost use Rattle.server_core.specs.declared.messages.Mail.{Mail};
+ghost use Rattle.server_core.specs.declared.schedules.Schedule.{Schedule};
+
+/// In every run each mail in flight fits its node, the run is no longer than a bound that the configuration and the
+/// workload give, and each abort line of its outcome names what the rule found. What a schedule picks is a quiet run. In
+/// every quiet run each transaction is committed at all its participants or at none; the decided transactions, executed
+/// one at a time in the order of their numbers, give each its reads and the last rows; and those are the nodes' rows.
+pub fn voting_runs_are_right()
+    ensures fits { (c : Config) (w : Workload) (H : List Entry) (flight : List Mail) → IsConfig c → IsValid w → IsVoting c.protocol → IsRun c w H flight → AllFitting c w H flight }
+    ensures short { (c : Config) (w : Workload) (H : List Entry) (flight : List Mail) → IsConfig c → IsValid w → IsVoting c.protocol → IsRun c w H flight → length H ≤ most_entries c w }
+    ensures named { (c : Config) (w : Workload) (H : List Entry) (flight : List Mail) → IsConfig c → IsValid w → IsVoting c.protocol → IsRun c w H flight → AllNamed c w H }
+    ensures picked { (c : Config) (w : Workload) (schedule : Schedule) → IsConfig c → IsValid w → IsVoting c.protocol → IsQuiet c w (picked c w schedule) }
+    ensures atomic { (c : Config) (w : Workload) (H : List Entry) → IsConfig c → IsValid w → IsVoting c.protocol → IsQuiet c w H → IsAtomic c w H }
+    ensures serial { (c : Config) (w : Workload) (H : List Entry) → IsConfig c → IsValid w → IsVoting c.protocol → IsQuiet c w H → IsSerial w (outcome c w H) }
+    ensures rows { (c : Config) (w : Workload) (H : List Entry) (key : Key) → IsConfig c → IsValid w → IsVoting c.protocol → IsQuiet c w H → node_rows (setting c w) (partition_of key c.parts) (heard (partition_of key c.parts) H) key ≡ row_of (outcome c w H).rows key }
+{}

@@ -1,0 +1,46 @@
+//! What nodes say to each other, what a run of them is, and what came of it: messages, histories and outcomes, with the
+//! definitions that every theorem on runs stands on.
+#![tactic(auto)]
+
+mod any_protocol;
+mod headline;
+mod laws;
+mod messages;
+mod ordered;
+mod outcomes;
+mod schedules;
+mod scheduling;
+mod settings;
+#[cfg(test)]
+mod tests;
+mod threads;
+
+pub use any_protocol::runs_are_right;
+use deneva_base::Items;
+pub use headline::voting_runs_are_right;
+pub use laws::{
+    aborts_are_named, commits_are_atomic, deliveries_are_runs, mails_fit, quiet_means_decided,
+    quiet_runs_are_serial, runs_are_bounded, runs_keep_account, stamps_tell,
+};
+pub use messages::{Entry, Mail, Msg};
+pub use ordered::{
+    order_is_global, ordered_deliveries_are_runs, ordered_mails_fit, ordered_quiet_runs_are_serial,
+    ordered_runs_are_right, ordered_runs_are_short, ready_is_the_rule, rows_are_serial,
+};
+pub use outcomes::{AbortLine, Decided, Giveup, Outcome, RunKind};
+pub use schedules::Schedule;
+pub use scheduling::{active_lists_are_kept, news_are_local, ordered_rows_are_greatest};
+pub use settings::{ordered_settings_are_valid, settings_are_valid};
+
+pub type MailList = Items<Mail>;
+/// What a node says, in the order said.
+pub type Outbox = Items<Mail>;
+
+/// The entries of a run, in the order of their places.
+pub type History = Items<Entry>;
+
+pub type DecidedList = Items<Decided>;
+
+pub type GiveupList = Items<Giveup>;
+
+pub type AbortList = Items<AbortLine>;

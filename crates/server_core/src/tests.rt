@@ -1,0 +1,158 @@
+//! Each public call once, on its happy path.
+
+use super::*;
+use deneva_base::{
+    Attempt, Bound, ByteList, Cause, Cell, Copied, IdList, Key, Keyed, Mode, Number, Protocol, Row,
+    RowList, TxnId,
+};
+use std::alloc::Global;
+use std::test::Fail;
+use txn_program::Verdict;
+
+const WHO: Attempt = Attempt {
+    txn: TxnId(3),
+    turn: 2,
+};
+
+const KEY: Key = Key {
+    table: 0,
+    a: 9,
+    b: 0,
+    c: 0,
+};
+
+const NUMBER: Number = Number { n: 7, id: TxnId(3) };
+
+const CAUSE: Cause = Cause::Held { key: KEY, by: WHO };
+
+fn row(alloc: Global) -> Result<Row, Fail> {
+    let mut row = Row::new(alloc);
+    row.push(Cell::Num(5))?;
+    Ok(row)
+}
+
+fn rows(alloc: Global) -> Result<RowList, Fail> {
+    let mut rows = RowList::new(alloc);
+    let keyed = Keyed {
+        key: KEY,
+        row: row(alloc)?,
+    };
+    rows.push(keyed)?;
+    Ok(rows)
+}
+
+#[test]
+fn messages_without_a_list_are_copied(rt: HostRuntime) -> Result<(), Fail> {
+    for msg in [
+        Msg::Start { who: WHO },
+        Msg::Ask {
+            who: WHO,
+            stamp: 4,
+            key: KEY,
+            mode: Mode::Put,
+        },
+        Msg::Refused {
+            who: WHO,
+            key: KEY,
+            cause: CAUSE,
+        },
+        Msg::Yes {
+            who: WHO,
+            part: 1,
+            lo: 2,
+            hi: 3,
+        },
+        Msg::No {
+            who: WHO,
+            part: 1,
+            cause: CAUSE,
+        },
+        Msg::Commit {
+            who: WHO,
+            number: NUMBER,
+        },
+        Msg::Abort { who: WHO },
+        Msg::Done { who: WHO, part: 1 },
+        Msg::Undone { who: WHO, part: 1 },
+        Msg::Tick { epoch: 6 },
+        Msg::Finished {
+            id: TxnId(3),
+            part: 1,
+            number: NUMBER,
+        },
+    ] {
+        assert_eq!(rt; msg.copied(rt.alloc())?, msg);
+    }
+    Ok(())
+}
+
+#[test]
+fn messages_with_a_list_are_copied(rt: HostRuntime) -> Result<(), Fail> {
+    let granted = Msg::Granted {
+        who: WHO,
+        key: KEY,
+        row: row(rt.alloc())?,
+        version: NUMBER,
+        bound: 8,
+    };
+    assert_eq!(rt; granted.copied(rt.alloc())?, granted);
+    let prepare = Msg::Prepare {
+        who: WHO,
+        bound: Bound { n: 8, key: KEY },
+        writes: rows(rt.alloc())?,
+        appends: RowList::new(rt.alloc()),
+    };
+    assert_eq!(rt; prepare.copied(rt.alloc())?, prepare);
+    let mut ids = IdList::new(rt.alloc());
+    ids.push(TxnId(3))?;
+    let batch = Msg::Batch {
+        epoch: 1,
+        seq: 2,
+        ids,
+    };
+    assert_eq!(rt; batch.copied(rt.alloc())?, batch);
+    let mail = Mail {
+        from: 1,
+        to: 2,
+        msg: Msg::Rows {
+            id: TxnId(3),
+            part: 1,
+            rows: rows(rt.alloc())?,
+        },
+    };
+    assert_eq!(rt; mail.copied(rt.alloc())?, mail);
+    let entry = Entry {
+        place: 5,
+        from: 1,
+        node: 2,
+        msg: Msg::Tick { epoch: 6 },
+    };
+    assert_eq!(rt; entry.copied(rt.alloc())?, entry);
+    Ok(())
+}
+
+#[test]
+fn lines_of_an_outcome_are_copied(rt: HostRuntime) -> Result<(), Fail> {
+    let decided = Decided {
+        number: NUMBER,
+        verdict: Verdict::Commit,
+        answer: -2,
+        parts: ByteList::from_bytes(rt.alloc(), &[0, 1])?,
+        reads: rows(rt.alloc())?,
+    };
+    assert_eq!(rt; decided.copied(rt.alloc())?, decided);
+    let giveup = Giveup {
+        id: TxnId(3),
+        turns: 8,
+    };
+    assert_eq!(rt; giveup.copied(rt.alloc())?, giveup);
+    let line = AbortLine {
+        who: WHO,
+        place: 5,
+        node: 2,
+        cause: CAUSE,
+    };
+    assert_eq!(rt; line.copied(rt.alloc())?, line);
+    assert_ne!(rt; RunKind::Under(Protocol::Maat), RunKind::Serial);
+    Ok(())
+}

@@ -1,0 +1,18 @@
+//! Workers may move and share what this crate declares: each call below asks the check for it.
+
+use crate::{AbortLine, Decided, Entry, Giveup, Mail, Msg, Outcome, RunKind, Schedule};
+
+fn crosses<X: Send + Sync>() {}
+
+/// Each type may be moved to another thread and shared between threads.
+fn may_cross_threads() {
+    crosses::<AbortLine>();
+    crosses::<Decided>();
+    crosses::<Entry>();
+    crosses::<Giveup>();
+    crosses::<Mail>();
+    crosses::<Msg>();
+    crosses::<Outcome>();
+    crosses::<RunKind>();
+    crosses::<Schedule>();
+}
