@@ -5,7 +5,7 @@ use Rattle.txn_program.specs.declared.programs.Workload.{Workload}
 use Rattle.deneva_top.specs.declared.workload_text.faults.InputFault.{InputFault}
 use Rattle.deneva_top.specs.Files.{AreNumbers, in_order}
 use Rattle.deneva_top.specs.Grammar.{quote_from, unless_quoted, workload_from, workload_of}
-use Rattle.deneva_top.specs.Records.{Record, records_of, text_of}
+use Rattle.report.specs.Records.{Record, records_of, text_of}
 use Rattle.deneva_top.proofs.FileRecords.{file_records, workload_back}
 use Rattle.deneva_top.proofs.RecordText.{records_back, unquoted}
 use Rattle.deneva_top.proofs.WrittenRecords.{records_are_written}

@@ -31,7 +31,7 @@ use Rattle.deneva_top.specs.declared.workload_text.said.Said.TheVariants.{Loads,
 use Rattle.deneva_top.specs.declared.workload_text.steps.Placed.{Placed}
 use Rattle.deneva_top.specs.Files.{is_short, has_short_keys, AreNumbers, in_order}
 use Rattle.deneva_top.specs.Gives.{◌>>=◌}
-use Rattle.deneva_top.specs.Records.{Record}
+use Rattle.report.specs.Records.{Record}
 use Rattle.deneva_top.specs.Grammar.{number_at, placed_at, text_at, texts_from, row_of, row_from, width, put_from, act_from, step_from, steps_from, first_unknown, first_repeated, none_at, txn_of, said_by, with_row, read_after, read_on, empty, head_from, read_from_head, workload_from}
 use Rattle.deneva_top.proofs.Decimals.{number_in-decimal}
 use Rattle.deneva_top.proofs.Puts.{has_key-put, length-put}

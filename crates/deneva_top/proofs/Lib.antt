@@ -3,7 +3,6 @@ pub mod Decimals
 pub mod FileOf
 pub mod FileRecords
 pub mod Ids
-pub mod Lines
 pub mod Onward
 pub mod Plain
 pub mod Puts

@@ -10,7 +10,7 @@ use Rattle.deneva_top.specs.declared.workload_text.reader.Progress.{Progress}
 use Rattle.deneva_top.specs.declared.workload_text.reader.Progress.TheVariants.{More, Ended}
 use Rattle.deneva_top.specs.declared.workload_text.said.Said.{Said}
 use Rattle.deneva_top.specs.declared.workload_text.said.Said.TheVariants.{Loads, Runs, Ends}
-use Rattle.deneva_top.specs.Records.{Record, fields_of}
+use Rattle.report.specs.Records.{Record, fields_of}
 use Rattle.deneva_top.specs.Grammar.{said_by, read_after, read_on, at_end}
 use Rattle.deneva_top.specs.Reader.{Advances}
 

@@ -3,7 +3,7 @@ use Rattle.std.proofs.Common.{◌≡◌, ℕ, ◌+◌, Bool, true, false, not, c
 use Rattle.std.specs.List.{list_all, list_any, onto_first, slice_split, filter}
 use Rattle.std.proofs.lemmas.Bool.{and_parts, and_from, or_parts, true≢false}
 use Rattle.txn_program.specs.Valid.{is_plain}
-use Rattle.deneva_top.specs.Records.{Record, has_quote, ends_line, fields_of, lines_of, records_of, without_mark}
+use Rattle.report.specs.Records.{Record, has_quote, ends_line, fields_of, lines_of, records_of, without_mark}
 use Rattle.deneva_top.specs.Grammar.{quoted_field, quote_from, quote_or}
 use Rattle.deneva_top.specs.declared.workload_text.faults.InputFault.{InputFault}
 use Rattle.deneva_top.proofs.Quotes.{quote_in_fields, some_field}

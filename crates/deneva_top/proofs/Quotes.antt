@@ -6,7 +6,7 @@ use Rattle.std.specs.Option.{option_map}
 use Rattle.std.proofs.Math.Bool.{or_assoc}
 use Rattle.std.proofs.lemmas.Bool.{eqb-true, true≢false}
 use Rattle.std.proofs.lemmas.Option.{none-some}
-use Rattle.deneva_top.specs.Records.{Record, has_quote, fields_of}
+use Rattle.report.specs.Records.{Record, has_quote, fields_of}
 use Rattle.deneva_top.specs.Grammar.{quoted_field, quote_from, quote_or, fault}
 use Rattle.deneva_top.specs.declared.workload_text.faults.InputFault.{InputFault}
 use Rattle.deneva_top.specs.declared.workload_text.faults.FaultKind.TheVariants.{Kind}

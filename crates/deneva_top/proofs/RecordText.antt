@@ -6,7 +6,7 @@ use Rattle.std.proofs.lemmas.List.Elements.{All-nil, All-cons}
 use Rattle.std.proofs.lemmas.List.Folds.{list_all-append}
 use Rattle.std.proofs.lemmas.List.Splits.{slice_split_none, slice_split_at}
 use Rattle.txn_program.specs.Valid.{is_plain}
-use Rattle.deneva_top.specs.Records.{Record, has_quote, ends_line, fields_of, lines_of, text_of}
+use Rattle.report.specs.Records.{Record, has_quote, ends_line, fields_of, lines_of, text_of}
 use Rattle.deneva_top.specs.Grammar.{quote_from, quote_or}
 use Rattle.deneva_top.proofs.Plain.{is_plain_record, is_line}
 use Rattle.deneva_top.proofs.Quotes.{no_field}

@@ -33,7 +33,7 @@ use Rattle.deneva_top.specs.declared.workload_text.steps.Placed.{Placed}
 use Rattle.deneva_top.specs.Files.{IsRising}
 use Rattle.deneva_top.specs.Gives.{◌>>=◌}
 use Rattle.deneva_top.specs.Numbers.{number_in, is_number, value_of}
-use Rattle.deneva_top.specs.Records.{Record, records_of}
+use Rattle.report.specs.Records.{Record, records_of}
 use Rattle.deneva_top.specs.Grammar.{field_at, placed_at, number_at, text_at, texts_from, format_of, head_of_format, head_from, row_from, width, width_of_put, put_from, act_from, step_from, word_at, args_of, steps_from, first_unknown, first_repeated, none_at, txn_of, end_from, said_by, with_row, with_program, at_end, read_after, read_on, empty, read_from_head, workload_from, quote_from, unless_quoted, workload_of}
 use Rattle.deneva_top.proofs.Bound.{bound, passed, held, either_gave, same_ok}
 use Rattle.deneva_top.proofs.Plain.{is_plain_record, records_are_plain}

@@ -10,8 +10,9 @@ use Rattle.deneva_top.specs.declared.workload_text.faults.FaultKind.{FaultKind}
 use Rattle.deneva_top.specs.declared.workload_text.faults.FaultKind.TheVariants.{Magic, Kind, Arity, NotANumber, OutOfRange, UnknownKey, Repeated, TooMany, NoEnd, Trailing, TooLong}
 use Rattle.deneva_top.specs.declared.workload_text.faults.InputFault.{InputFault}
 use Rattle.deneva_top.specs.Sources.{InputIs, IsReadUnless}
-use Rattle.deneva_top.specs.Records.{Record, line_of}
-use Rattle.deneva_top.specs.ReportText.{serial_report}
+use Rattle.report.specs.Records.{Record, line_of}
+use Rattle.report.specs.ReportText.{report_text}
+use Rattle.report.specs.SerialOutcome.{serial_outcome}
 
 -- the command that words give, if they give one: exactly the word `serial`
 abbrev pub command_of : List (List ℕ) → Option Command
@@ -42,7 +43,7 @@ fault_line f = line_of (fault_record f)
 
 -- the report of the serial execution, in file order, of a workload
 abbrev pub report_of : Workload → List ℕ
-report_of work = serial_report (serial work (all_ids work))
+report_of work = report_text (serial_outcome (serial work (all_ids work)))
 
 -- what a call answers before it writes: its status and its text, where the source told these bytes left and counted these faults, before and after
 pub record Answers (words : List (List ℕ)) (bytes bytes_now : Option (List ℕ)) (faults faults_now : ℕ) (status : ℕ) (text : List ℕ) : Type 0 where

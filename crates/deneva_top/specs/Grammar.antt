@@ -27,7 +27,7 @@ use Rattle.deneva_top.specs.declared.workload_text.said.Said.TheVariants.{Loads,
 use Rattle.deneva_top.specs.declared.workload_text.steps.Placed.{Placed}
 use Rattle.deneva_top.specs.Gives.{◌>>=◌}
 use Rattle.deneva_top.specs.Numbers.{number_in}
-use Rattle.deneva_top.specs.Records.{Record, records_of, has_quote}
+use Rattle.report.specs.Records.{Record, records_of, has_quote}
 
 -- a flaw of a record: its field, or 0 for the whole record
 abbrev pub flaw : ℕ → FaultKind → Flaw

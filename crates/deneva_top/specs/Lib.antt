@@ -6,5 +6,3 @@ pub mod Gives
 pub mod Numbers
 pub mod Reader
 pub mod Sources
-pub mod Records
-pub mod ReportText

@@ -11,12 +11,12 @@ ghost use Rattle.deneva_top.specs.Calls.{Answers, fault_line, report_of};
 ghost use Rattle.deneva_top.specs.Sources.{InputIs, WorkIs, FaultIs, IsReadUnless};
 
 use crate::fault_text::write_fault;
-use crate::report::write_serial_report;
 use crate::serial_model::run_serial;
 use crate::words::{Command, command_of};
 use crate::workload_text::{ReadError, read_workload};
 use deneva_base::{ByteList, IdList, NoMemory, TxnId};
 use deneva_io::{Put, Sink, Source};
+use report::{serial_outcome, write_report};
 use std::alloc::Global;
 use txn_program::{ProgramList, Workload};
 
@@ -42,7 +42,8 @@ fn serial_report(alloc: Global, work: &Workload) -> Result<ByteList, NoMemory>
 {
     let order = ids_of(alloc, work)?;
     let run = run_serial(alloc, work, &order)?;
-    write_serial_report(alloc, &run)
+    let outcome = serial_outcome(alloc, run)?;
+    write_report(alloc, &outcome)
 }
 
 /// What a call answers: the status that it ends with, and the text that it writes.
@@ -122,10 +123,10 @@ fn send<K: Sink>(sink: &mut K, status: u8, text: &[u8]) -> Ended
     }
 }
 
-/// Runs the command that the words give, over the bytes of a source, and writes its answer to a sink in pieces of at most
-/// 4,096 bytes: the whole text is in memory before its first byte is written. `words` are the arguments without the program's name. For
-/// `serial` the source has a workload file of at most 67,108,864 bytes, and the answer is the report of its transactions,
-/// executed one at a time in file order.
+/// Runs the command that the words give, over the bytes of a source, and writes its answer to a sink in pieces of at
+/// most 4,096 bytes: the whole text is in memory before its first byte is written. `words` are the arguments without
+/// the program's name. For `serial` the source has a workload file of at most 67,108,864 bytes, and the answer is the
+/// report of its transactions, executed one at a time in file order.
 pub fn deneva<S: Source, K: Sink>(
     alloc: Global,
     words: &[String],

@@ -1,11 +1,11 @@
 //! The lines that tell why a call was refused.
 ghost use Rattle.std.specs.Prelude.{◌≡◌, ◌++◌, IfOk, OnOk};
 ghost use Rattle.deneva_top.specs.Calls.{kind_fields, fault_line};
-ghost use Rattle.deneva_top.specs.ReportText.{field_texts};
+ghost use Rattle.report.specs.ReportText.{field_texts};
 
-use crate::report::{push_field, push_number_field};
 use crate::workload_text::{FaultKind, InputFault};
 use deneva_base::{ByteList, NoMemory};
+use report::{push_field, push_number_field};
 use std::alloc::Global;
 
 /// Puts the fields that name what is wrong at the end.

@@ -4,7 +4,6 @@
 mod calls;
 mod fault_text;
 mod ordered_rows;
-mod report;
 pub mod serial_model;
 mod words;
 pub mod workload_text;

@@ -146,6 +146,22 @@ fn steps_are_walked_one_by_one(rt: HostRuntime) -> Result<(), Fail> {
             "fault,input,3,2,kind\n",
         ),
         (
+            "deneva,1,ycsb,1\nrow,1,a\nrow,2,a\nrow,3,a\nrow,4,a\nrow,5,a\nrow,6,a\nrow,7,a\nrow,8,a\nrow,9,a\nrow,10,a\nrow,11,a\nrow,12,a\nrow,13,a\nrow,14,a\nrow,15,a\nrow,16,a\nrow,17,a\ntxn,r,1,r,2,r,3,r,4,r,5,r,6,r,7,r,8,r,9,r,10,r,11,r,12,r,13,r,14,r,15,r,16,r,17\nend\n",
+            "fault,input,19,0,toomany,16\n",
+        ),
+    ];
+    for (input, text) in &cases {
+        let (status, sink) = run(rt.alloc(), &["serial"], input)?;
+        assert_eq!(rt; status, 3);
+        assert_eq!(rt; sink.bytes(), text.as_bytes());
+    }
+    Ok(())
+}
+
+#[test]
+fn records_are_read_one_by_one(rt: HostRuntime) -> Result<(), Fail> {
+    let cases = [
+        (
             "deneva,1,ycsb,1\nrow,1,a\ndeneva,1,ycsb,1\nend\n",
             "fault,input,3,1,kind\n",
         ),
@@ -164,10 +180,6 @@ fn steps_are_walked_one_by_one(rt: HostRuntime) -> Result<(), Fail> {
         (
             "deneva,1,ycsb,1\nrow,1,a\nend,1\n",
             "fault,input,3,0,arity\n",
-        ),
-        (
-            "deneva,1,ycsb,1\nrow,1,a\nrow,2,a\nrow,3,a\nrow,4,a\nrow,5,a\nrow,6,a\nrow,7,a\nrow,8,a\nrow,9,a\nrow,10,a\nrow,11,a\nrow,12,a\nrow,13,a\nrow,14,a\nrow,15,a\nrow,16,a\nrow,17,a\ntxn,r,1,r,2,r,3,r,4,r,5,r,6,r,7,r,8,r,9,r,10,r,11,r,12,r,13,r,14,r,15,r,16,r,17\nend\n",
-            "fault,input,19,0,toomany,16\n",
         ),
         // A quote comes before every other fault, also before one in an earlier record.
         ("deneva,9\nrow,1,a\"b\nend\n", "fault,input,2,3,kind\n"),

@@ -4,7 +4,7 @@ ghost use Rattle.txn_program.specs.Valid.{IsValid};
 ghost use Rattle.deneva_top.specs.Files.{IsRising};
 ghost use Rattle.deneva_top.specs.Grammar as grammar;
 ghost use Rattle.deneva_top.specs.Reader.{Reads, HeadGives, error_at, work_of};
-ghost use Rattle.deneva_top.specs.Records.{fields_of};
+ghost use Rattle.report.specs.Records.{fields_of};
 
 use crate::workload_text::faults::{FaultKind, ReadError, RecordError, fault};
 use crate::workload_text::heads::{Head, head_of};
@@ -90,8 +90,8 @@ fn read_text(alloc: Global, text: &[u8]) -> Result<Workload, ReadError>
     read_lines(alloc, &lines)
 }
 
-/// The workload that the bytes of a file give, which is valid and has its load's rows in key order, or their first fault. It
-/// never answers `ReadFault`, and the fault is never `TooLong`.
+/// The workload that the bytes of a file give, which is valid and has its load's rows in key order, or their first
+/// fault. It never answers `ReadFault`, and the fault is never `TooLong`.
 pub fn parse_workload(alloc: Global, bytes: &ByteList) -> Result<Workload, ReadError>
     ensures answer { Reads result (grammar.workload_of bytes.now) }
     ensures valid { IfOk result (λ work. IsValid work) }

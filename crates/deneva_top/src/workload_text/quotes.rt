@@ -1,6 +1,6 @@
 //! Quoted fields, which are not read.
 ghost use Rattle.std.specs.Prelude.{◌≡◌, ◌≤◌, min, map, length, IfOk, IfSome};
-ghost use Rattle.deneva_top.specs.Records.{has_quote, fields_of};
+ghost use Rattle.report.specs.Records.{has_quote, fields_of};
 ghost use Rattle.deneva_top.specs.Grammar.{fault, quoted_field, quote_from};
 
 use crate::workload_text::faults::{FaultKind, InputFault, fault};

@@ -2,7 +2,7 @@
 ghost use Rattle.std.specs.Prelude.{◌≡◌, ◌+◌, ◌<◌, ◌≤◌, ◌^◌, map, length, IfOk, OnOk, Ok, [], ◌∷◌, ◌++◌};
 ghost use Rattle.deneva_base.specs.Rows.{rows_in, has_key, put};
 ghost use Rattle.deneva_top.specs.Gives.{Gives};
-ghost use Rattle.deneva_top.specs.Records.{fields_of};
+ghost use Rattle.report.specs.Records.{fields_of};
 ghost use Rattle.deneva_top.specs.Grammar as grammar;
 ghost use Rattle.deneva_top.specs.declared.workload_text.faults.FaultKind.TheVariants.{TooMany};
 

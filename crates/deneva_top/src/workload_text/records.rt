@@ -1,6 +1,6 @@
 //! The records of a text, and their fields.
 ghost use Rattle.std.specs.Prelude.{◌≡◌, map, IfOk};
-ghost use Rattle.deneva_top.specs.Records.{without_mark, lines_of, fields_of};
+ghost use Rattle.report.specs.Records.{without_mark, lines_of, fields_of};
 
 use deneva_base::NoMemory;
 use std::alloc::Global;

@@ -1,5 +1,5 @@
 use Rattle.std.proofs.Common.{◌≡◌, ◌+◌, map, drop}
-use Rattle.deneva_top.specs.Records.{fields_of}
+use Rattle.report.specs.Records.{fields_of}
 use Rattle.deneva_top.specs.Reader.{work_of}
 use Rattle.deneva_top.specs.Grammar as grammar
 use Rattle.deneva_top.proofs.workload_text.lines.read_records.Given as goal

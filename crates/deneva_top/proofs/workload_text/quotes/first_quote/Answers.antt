@@ -1,7 +1,7 @@
 use Rattle.std.proofs.Common.{◌≡◌, ◌-◌, ◌<◌, [], length, Some, map, rules, tests, arith, ap, ◌∙◌, sym}
 use Rattle.std.specs.Option.{option_map}
 use Rattle.std.proofs.lemmas.List.{get_or-map}
-use Rattle.deneva_top.specs.Records.{fields_of}
+use Rattle.report.specs.Records.{fields_of}
 use Rattle.deneva_top.specs.Grammar.{quoted_field, fault}
 use Rattle.deneva_top.specs.declared.workload_text.faults.FaultKind.TheVariants.{Kind}
 use Rattle.deneva_top.proofs.Quotes.{quote_none, quote_at, fault_in}

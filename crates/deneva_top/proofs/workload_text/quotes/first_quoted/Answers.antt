@@ -1,7 +1,7 @@
 use Rattle.std.proofs.Common.{rules, tests}
 use Rattle.std.proofs.lemmas.Iterator.{YieldsList-from_slice}
 use Rattle.std.proofs.lemmas.Iterator.Search.{position_from_yields_List}
-use Rattle.deneva_top.specs.Records.{has_quote}
+use Rattle.report.specs.Records.{has_quote}
 use Rattle.deneva_top.proofs.Quotes.{counted_is}
 use Rattle.deneva_top.proofs.workload_text.quotes.first_quoted.Goals as goal
 

@@ -1,7 +1,7 @@
 use Rattle.std.proofs.Common.{Ok, rules, tests}
 use Rattle.std.proofs.lemmas.Iterator.Consumers.{map_from_collect, YieldsList-at, YieldsList-from_filter}
 use Rattle.std.proofs.lemmas.Iterator.Splits.{YieldsList-from_slice_split}
-use Rattle.deneva_top.specs.Records.{ends_line, without_mark}
+use Rattle.report.specs.Records.{ends_line, without_mark}
 use Rattle.deneva_top.proofs.workload_text.records.split_lines.Goals as goal
 
 pub returns : goal.returns

@@ -2,7 +2,7 @@ use Rattle.std.proofs.Common.{◌≡◌, ◌≤◌, ℕ, List, map, length, ap, 
 use denote.Ref.{Bor}
 use Rattle.std.proofs.lemmas.List.{length-map}
 use Rattle.std.proofs.lemmas.List.Splits.{length-slice_split}
-use Rattle.deneva_top.specs.Records.{fields_of}
+use Rattle.report.specs.Records.{fields_of}
 use Rattle.deneva_top.proofs.workload_text.reader.Reading.read.Goals as goal
 
 -- a line has at least one field

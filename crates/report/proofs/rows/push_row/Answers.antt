@@ -1,9 +1,9 @@
 use Rattle.std.proofs.Common.{◌≡◌, ◌∙◌, ℕ, List, [], ◌∷◌, ◌++◌, map, sym, ap, append_assoc}
 use Rattle.std.proofs.lemmas.Result.{IfOk-equal}
-use Rattle.deneva_top.specs.Records.{line_of}
-use Rattle.deneva_top.specs.ReportText.{key_text, cell_text, field_texts}
-use Rattle.deneva_top.proofs.Lines.{line_of-cons}
-use Rattle.deneva_top.proofs.report.push_row.Goals as goal
+use Rattle.report.specs.Records.{line_of}
+use Rattle.report.specs.ReportText.{key_text, cell_text, field_texts}
+use Rattle.report.proofs.Lines.{line_of-cons}
+use Rattle.report.proofs.rows.push_row.Goals as goal
 
 -- the pieces of a line behind a text
 pieces : (text w key cells : List ℕ) → (((text ++ w) ++ 44 ∷ key) ++ cells) ++ 10 ∷ [] ≡ text ++ ((w ++ (44 ∷ key ++ cells)) ++ 10 ∷ [])

@@ -1,6 +1,6 @@
 use Rattle.std.proofs.Common.{◌≡◌, ◌++◌, map, drop}
-use Rattle.deneva_top.specs.ReportText.{cell_text, field_texts}
-use Rattle.deneva_top.proofs.report.push_cells.Given as goal
+use Rattle.report.specs.ReportText.{cell_text, field_texts}
+use Rattle.report.proofs.rows.push_cells.Given as goal
 
 -- the text so far, and that of what is left
 abbrev pub invariant-loop-cell : goal.invariant-loop-cell

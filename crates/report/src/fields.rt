@@ -1,0 +1,103 @@
+//! The fields of records.
+ghost use Rattle.std.specs.Prelude.{◌≡◌, ◌++◌, ◌∷◌, OnOk, map, decimal};
+ghost use Rattle.std.specs.List.{flat_map};
+ghost use Rattle.report.specs.ReportText as spec;
+ghost use Rattle.report.specs.ReportText.{key_text, attempt_text, parts_text};
+
+use deneva_base::{Attempt, ByteList, Key, NoMemory, Protocol};
+use itoa::{Buffer, Integer};
+use server_core::RunKind;
+
+/// Puts the text of a number at the end.
+fn push_number<I: Integer>(text: &mut ByteList, number: I) -> Result<(), NoMemory>
+    ensures { OnOk result (text.new ≡ text.old ++ I.text number) }
+{
+    text.extend(Buffer::new().format(number).as_bytes())
+}
+
+/// Puts a comma and a field at the end of a text: the bytes as they are, which hold no comma, quote or line end. At
+/// want of memory the text may have a part of it.
+pub fn push_field(text: &mut ByteList, field: &[u8]) -> Result<(), NoMemory>
+    ensures { OnOk result (text.new ≡ text.old ++ 44 ∷ field.now) }
+{
+    text.extend(b",")?;
+    text.extend(field)
+}
+
+/// Puts a comma and a number, in decimal digits, at the end of a text. At want of memory the text may have a part of
+/// it.
+pub fn push_number_field<I: Integer>(text: &mut ByteList, number: I) -> Result<(), NoMemory>
+    ensures { OnOk result (text.new ≡ text.old ++ 44 ∷ I.text number) }
+{
+    text.extend(b",")?;
+    push_number(text, number)
+}
+
+/// Puts a point and a number at the end.
+fn push_number_part<I: Integer>(text: &mut ByteList, number: I) -> Result<(), NoMemory>
+    ensures { OnOk result (text.new ≡ text.old ++ 46 ∷ I.text number) }
+{
+    text.extend(b".")?;
+    push_number(text, number)
+}
+
+/// Puts a comma and a key at the end.
+pub fn push_key(text: &mut ByteList, key: Key) -> Result<(), NoMemory>
+    ensures { OnOk result (text.new ≡ text.old ++ 44 ∷ key_text key) }
+{
+    push_number_field(text, key.table)?;
+    push_number_part(text, key.a)?;
+    push_number_part(text, key.b)?;
+    push_number_part(text, key.c)
+}
+
+/// Puts a comma and an attempt at the end.
+pub fn push_attempt(text: &mut ByteList, who: Attempt) -> Result<(), NoMemory>
+    ensures { OnOk result (text.new ≡ text.old ++ 44 ∷ attempt_text who) }
+{
+    push_number_field(text, who.txn.0)?;
+    push_number_part(text, who.turn)
+}
+
+fn push_number_parts(text: &mut ByteList, numbers: &[u8]) -> Result<(), NoMemory>
+    ensures { OnOk result (text.new ≡ text.old ++ flat_map (λ bytes. 46 ∷ bytes) (map decimal numbers.now)) }
+{
+    for number in numbers {
+        push_number_part(text, *number)?;
+    }
+    Ok(())
+}
+
+/// Puts a comma and the participants at the end.
+pub fn push_parts(text: &mut ByteList, parts: &[u8]) -> Result<(), NoMemory>
+    ensures { OnOk result (text.new ≡ text.old ++ 44 ∷ parts_text parts.now) }
+{
+    let Some((first, others)) = parts.split_first() else {
+        return text.extend(b",");
+    };
+    push_number_field(text, *first)?;
+    push_number_parts(text, others)
+}
+
+fn protocol_word(protocol: Protocol) -> &'static str
+    ensures { result.now ≡ spec.protocol_word protocol }
+{
+    match protocol {
+        Protocol::NoWait => "nowait",
+        Protocol::WaitDie => "waitdie",
+        Protocol::Timestamp => "timestamp",
+        Protocol::Mvcc => "mvcc",
+        Protocol::Maat => "maat",
+        Protocol::Calvin => "calvin",
+    }
+}
+
+/// The word of how the transactions were run.
+pub fn kind_word(kind: RunKind) -> &'static str
+    ensures { result.now ≡ spec.kind_word kind }
+{
+    match kind {
+        RunKind::Serial => "serial",
+        RunKind::Under(protocol) => protocol_word(protocol),
+    }
+}

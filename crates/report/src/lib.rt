@@ -1,0 +1,17 @@
+//! The texts of outcomes: the report, which has every decided transaction, give-up, abort and row, and the brief line,
+//! which counts them.
+#![tactic(auto)]
+
+mod aborts;
+mod decided;
+mod fields;
+mod rows;
+mod serial;
+#[cfg(test)]
+mod tests;
+mod texts;
+
+pub use fields::{push_field, push_number_field};
+pub use serial::serial_outcome;
+pub use server_core::{AbortLine, Decided, Giveup, Outcome, RunKind};
+pub use texts::{write_brief, write_report};
