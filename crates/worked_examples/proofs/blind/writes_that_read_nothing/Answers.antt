@@ -1,0 +1,8 @@
+-- Computed.
+use Rattle.std.proofs.Common.{refl}
+use Rattle.std.specs.Fmt.{digits}
+use Rattle.worked_examples.proofs.blind.writes_that_read_nothing.Goals as goal
+
+pub returns : goal.returns
+unfolding digits
+returns c = record { timestamp = refl; mvcc = refl; calvin = refl; no_wait = refl; wait_die = refl; maat = refl }

@@ -1,0 +1,8 @@
+-- Computed.
+use Rattle.std.proofs.Common.{refl}
+use Rattle.std.specs.Fmt.{digits}
+use Rattle.worked_examples.proofs.locks.two_partitions_under_no_wait.Goals as goal
+
+pub returns : goal.returns
+unfolding digits
+returns c = record { report = refl }

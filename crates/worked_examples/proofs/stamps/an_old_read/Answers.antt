@@ -1,0 +1,8 @@
+-- Computed.
+use Rattle.std.proofs.Common.{refl}
+use Rattle.std.specs.Fmt.{digits}
+use Rattle.worked_examples.proofs.stamps.an_old_read.Goals as goal
+
+pub returns : goal.returns
+unfolding digits
+returns c = record { timestamp = refl; mvcc = refl }
