@@ -79,7 +79,8 @@ pub trait Control: Sized + Drop + Send {
         ensures stands { OnOk result ((loaded : Rows) (h : History) → Self.stands self.old loaded h → MayCommit h who number → Self.stands self.new loaded (Commit who number ((Self.rule loaded).commit h who number) ∷ h)) }
         ensures same { OnErr result ((loaded : Rows) (h : History) → Self.stands self.old loaded h → Self.stands self.new loaded h) }
         ensures same_woken { OnErr result (woken.new ≡ woken.old) }
-        ensures quiet { (loaded : Rows) (h : History) → Self.stands self.old loaded h → waits h ≡ [] → IsOk result };
+        ensures quiet { (loaded : Rows) (h : History) → Self.stands self.old loaded h → waits h ≡ [] → IsOk result }
+        ensures idle { (loaded : Rows) (h : History) → Self.stands self.old loaded h → MayCommit h who number → (Self.rule loaded).commit h who number ≡ [] → IsOk result };
 
     /// Ends an attempt without its rows. Whom this wakes is put at the end of `woken`.
     fn abort(&mut self, who: Attempt, woken: &mut Woken) -> Result<(), NoMemory>
@@ -88,7 +89,8 @@ pub trait Control: Sized + Drop + Send {
         ensures stands { OnOk result ((loaded : Rows) (h : History) → Self.stands self.old loaded h → MayAbort h who → Self.stands self.new loaded (Abort who ((Self.rule loaded).abort h who) ∷ h)) }
         ensures same { OnErr result ((loaded : Rows) (h : History) → Self.stands self.old loaded h → Self.stands self.new loaded h) }
         ensures same_woken { OnErr result (woken.new ≡ woken.old) }
-        ensures quiet { (loaded : Rows) (h : History) → Self.stands self.old loaded h → waits h ≡ [] → IsOk result };
+        ensures quiet { (loaded : Rows) (h : History) → Self.stands self.old loaded h → waits h ≡ [] → IsOk result }
+        ensures idle { (loaded : Rows) (h : History) → Self.stands self.old loaded h → MayAbort h who → (Self.rule loaded).abort h who ≡ [] → IsOk result };
 
     /// How many accesses wait.
     fn waiting(&self) -> usize

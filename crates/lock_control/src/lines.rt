@@ -2,6 +2,7 @@
 ghost use Rattle.std.specs.Prelude.{◌≡◌, ◌++◌, map, None, IfOk, OnOk, OnErr};
 ghost use Rattle.deneva_base.specs.Lists.{greatest_by};
 ghost use Rattle.deneva_base.specs.declared.keys.Key.{Key};
+ghost use Rattle.deneva_base.specs.WaitDie.{none};
 ghost use Rattle.lock_control.specs.Requests.{least_bar, is_stopped};
 ghost use Rattle.lock_control.specs.Tables.{locks_at, no_locks, floor_at, with_request, ended_in, all_ended, granted_in, all_granted, waiter_for, front_over, SetsLocks, SameLocks};
 
@@ -122,6 +123,20 @@ impl Lines {
             }
         }
         Ok(front)
+    }
+
+    /// Whether none of the requests for these keys is to be granted when an attempt ends.
+    pub fn is_idle(&self, keys: &[Key], ended: Attempt) -> bool
+        ensures { result ≡ none (front_over ended self.now keys.now) }
+    {
+        for key in keys {
+            if let Some(line) = self.lines.get(key) {
+                if !line.is_idle(ended) {
+                    return false;
+                }
+            }
+        }
+        true
     }
 
     /// Grants the attempt's request for the key.

@@ -1,6 +1,7 @@
 //! The requests for one key.
 ghost use Rattle.std.specs.Prelude.{◌≡◌, [], not, filter, map, None, IfOk, OnOk, OnErr};
 ghost use Rattle.deneva_base.specs.Keys.{attempt_eq};
+ghost use Rattle.deneva_base.specs.WaitDie.{none};
 ghost use Rattle.lock_control.specs.Requests.{conflicting, least_bar, is_stopped, is_barred, any_conflicts, front_of, put_request, mode_in, floor_in, accessed_by, written_by, grants_to};
 
 use deneva_base::{Attempt, Mode, NoMemory};
@@ -123,6 +124,18 @@ impl Line {
             }
         }
         Ok(front)
+    }
+
+    /// Whether none of the requests is to be granted when an attempt ends.
+    pub fn is_idle(&self, ended: Attempt) -> bool
+        ensures { result ≡ none (front_of ended self.now.requests.items [] self.now.requests.items) }
+    {
+        for request in &self.requests {
+            if request.waits {
+                return self.is_barred(request, ended);
+            }
+        }
+        true
     }
 
     /// Puts a request in its place by stamp.

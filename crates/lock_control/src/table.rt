@@ -1,5 +1,5 @@
 //! A partition under two-phase locking: its rows, its locks, and what each attempt has there.
-ghost use Rattle.std.specs.Prelude.{◌≡◌, ◌≤◌, ◌<◌, ◌^◌, ◌+◌, ◌++◌, ℕ, true, map, option_map, None, Some, IfOk, IfErr, IsOk, OnOk, OnErr, length};
+ghost use Rattle.std.specs.Prelude.{◌≡◌, [], ◌≤◌, ◌<◌, ◌^◌, ◌+◌, ◌++◌, ℕ, true, map, option_map, None, Some, IfOk, IfErr, IsOk, OnOk, OnErr, length};
 ghost use Rattle.deneva_base.specs.Lists.{IsIn, greatest_by};
 ghost use Rattle.deneva_base.specs.declared.keys.Key.{Key};
 ghost use Rattle.deneva_base.specs.declared.numbers.Attempt.{Attempt};
@@ -9,6 +9,7 @@ ghost use Rattle.deneva_base.specs.declared.answers.Vote.TheVariants.{Yes};
 ghost use Rattle.row_store.specs.Stores.{version_at, has};
 ghost use Rattle.control_core.specs.Leaving.{IsLoadedStore};
 ghost use Rattle.deneva_base.specs.Latest.{row_for};
+ghost use Rattle.deneva_base.specs.WaitDie.{none};
 ghost use Rattle.lock_control.specs.Requests.{waiting};
 ghost use Rattle.lock_control.specs.Tables.{locks_at, holding_at, floor_at, front_over};
 ghost use Rattle.lock_control.specs.Changes.{read_in, IsFresh, Adds, MayNote, Promises, MayReserve, Ends, EndsAndWakes, Wakes, offered, comes_after, version_after, wake_for};
@@ -214,8 +215,18 @@ impl Table {
         self.lines.wake_all(front);
     }
 
+    /// Whether no request is to be granted when an attempt ends.
+    fn is_idle(&self, ended: Attempt) -> bool
+        ensures { result ≡ none (front_over ended self.now.lines (holding_at self.now.parts ended).keys) }
+    {
+        match self.parts.get(ended) {
+            Some(part) => self.lines.is_idle(&part.keys, ended),
+            None => true,
+        }
+    }
+
     /// Ends an attempt as `end` does, and grants who waited for it: their wakes are put at the end of `woken`. Where
-    /// nothing waits, this takes no memory.
+    /// there is none, this takes no memory.
     pub fn end_and_wake(
         &mut self,
         who: Attempt,
@@ -230,9 +241,9 @@ impl Table {
         ensures ok { OnOk result (EndsAndWakes who number (front_over who self.old.lines (holding_at self.old.parts who).keys) self.old self.new) }
         ensures err { OnErr result (self.new ≡ self.old) }
         ensures same_woken { OnErr result (woken.new ≡ woken.old) }
-        ensures quiet { self.old.waiting ≡ 0 → IsOk result }
+        ensures idle { front_over who self.old.lines (holding_at self.old.parts who).keys ≡ [] → IsOk result }
     {
-        if self.waiting == 0 {
+        if self.is_idle(who) {
             self.end(who, number);
             return Ok(());
         }

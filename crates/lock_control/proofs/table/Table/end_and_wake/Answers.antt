@@ -1,13 +1,13 @@
 use Rattle.std.proofs.Common.{◌≡◌, [], refl, sym, subst, rules, arith, List}
-use Rattle.std.proofs.lemmas.List.{nil_from_length}
+use Rattle.lock_control.proofs.Idle.{nil_from_none}
 use Rattle.lock_control.specs.declared.lines.Waiter.{Waiter}
 use Rattle.lock_control.specs.Tables.{front_over, holding_at}
 use Rattle.lock_control.specs.Changes.{Wakes}
 use Rattle.lock_control.proofs.table.Table.end_and_wake.Goals as goal
 
-pub returns-then-self-eq0-clause-ok : goal.returns-then-self-eq0-clause-ok
-returns-then-self-eq0-clause-ok c =
-    let none : front_over c.args.who c.args.self.now.lines (holding_at c.args.self.now.parts c.args.who).keys ≡ [] = nil_from_length _ (search (rules, c.requires.few)) in
+pub returns-then-is_idle-clause-ok : goal.returns-then-is_idle-clause-ok
+returns-then-is_idle-clause-ok c =
+    let none : front_over c.args.who c.args.self.now.lines (holding_at c.args.self.now.parts c.args.who).keys ≡ [] = nil_from_none _ (search rules) in
     record {
       between = c.end.new.self;
       ends = c.end.ensures;
