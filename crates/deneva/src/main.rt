@@ -1,6 +1,8 @@
 //! The program `deneva`: its words are its arguments, its input is standard input, and its answer goes to standard output.
 #![tactic(auto)]
 
+ghost use Rattle.std.specs.Prelude.{◌≤◌};
+
 use deneva_base::NoMemory;
 use deneva_io::{ReadSource, WriteSink};
 use deneva_top::deneva;
@@ -25,15 +27,21 @@ fn words_of(rt: &HostRuntime) -> Result<Vec<String>, NoMemory> {
     }
 }
 
-fn main(rt: HostRuntime) -> ExitCode {
-    let Ok(words) = words_of(&rt) else {
+/// The status of the call, 0 to 5.
+fn run(rt: &HostRuntime) -> u8
+    ensures { result ≤ 5 }
+{
+    let Ok(words) = words_of(rt) else {
         return match rt.print("fault,memory\n") {
-            Ok(()) => ExitCode::from(NO_MEMORY),
-            Err(_) => ExitCode::from(SINK_FAULT),
+            Ok(()) => NO_MEMORY,
+            Err(_) => SINK_FAULT,
         };
     };
     let mut source = ReadSource::new(rt.stdin());
     let mut sink = WriteSink::new(rt.stdout());
-    let ended = deneva(rt.alloc(), &words, &mut source, &mut sink);
-    ExitCode::from(ended.status)
+    deneva(rt.alloc(), &words, &mut source, &mut sink).status
+}
+
+fn main(rt: HostRuntime) -> ExitCode {
+    ExitCode::from(run(&rt))
 }

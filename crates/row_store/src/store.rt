@@ -1,5 +1,6 @@
 //! The store of a partition.
 ghost use Rattle.std.specs.Prelude.{◌≡◌, ◌≤◌, ◌+◌, true, Some, option_map, is_some, IfOk, OnOk};
+ghost use Rattle.std.specs.declared.alloc.Global.{Global};
 ghost use Rattle.deneva_base.specs.Rising.{keys_rise};
 ghost use Rattle.deneva_base.specs.declared.keys.Key.{Key};
 ghost use Rattle.row_store.specs.Stores.{version_at, has, row_in, HaveDistinctKeys};
@@ -60,8 +61,10 @@ impl Store {
         self.versions.get(&key)
     }
 
-    /// The allocator that the store was made with.
-    pub fn allocator(&self) -> Global {
+    /// The allocator that the store was made with. There is only one.
+    pub fn allocator(&self) -> Global
+        ensures { (alloc : Global) → result ≡ alloc }
+    {
         self.alloc
     }
 

@@ -1,4 +1,4 @@
-use Rattle.std.proofs.Common.{◌≡◌, sym, ap, ◌∙◌}
+use Rattle.std.proofs.Common.{sym, ap, ◌∙◌}
 use Rattle.row_store.specs.Stores.{version_at}
 use Rattle.row_store.proofs.Tables.{get_key}
 use Rattle.row_store.proofs.store.Store.version.Goals as goal
