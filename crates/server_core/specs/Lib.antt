@@ -37,3 +37,5 @@ pub mod CalvinSerial
 pub mod CalvinLimits
 pub mod ActiveList
 pub mod GreatestRows
+pub mod Outgoing
+pub mod Roles

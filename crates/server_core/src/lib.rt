@@ -7,9 +7,11 @@ mod headline;
 mod laws;
 mod messages;
 mod ordered;
+mod outbox;
 mod outcomes;
 mod schedules;
 mod scheduling;
+mod server;
 mod settings;
 #[cfg(test)]
 mod tests;
@@ -27,14 +29,14 @@ pub use ordered::{
     order_is_global, ordered_deliveries_are_runs, ordered_mails_fit, ordered_quiet_runs_are_serial,
     ordered_runs_are_right, ordered_runs_are_short, ready_is_the_rule, rows_are_serial,
 };
+pub use outbox::Outbox;
 pub use outcomes::{AbortLine, Decided, Giveup, Outcome, RunKind};
 pub use schedules::Schedule;
 pub use scheduling::{active_lists_are_kept, news_are_local, ordered_rows_are_greatest};
+pub use server::{Handles, Letter, Server};
 pub use settings::{ordered_settings_are_valid, settings_are_valid};
 
 pub type MailList = Items<Mail>;
-/// What a node says, in the order said.
-pub type Outbox = Items<Mail>;
 
 /// The entries of a run, in the order of their places.
 pub type History = Items<Entry>;

@@ -1,6 +1,6 @@
 //! Workers may move and share what this crate declares: each call below asks the check for it.
 
-use crate::{AbortLine, Decided, Entry, Giveup, Mail, Msg, Outcome, RunKind, Schedule};
+use crate::{AbortLine, Decided, Entry, Giveup, Mail, Msg, Outbox, Outcome, RunKind, Schedule};
 
 fn crosses<X: Send + Sync>() {}
 
@@ -12,6 +12,7 @@ fn may_cross_threads() {
     crosses::<Giveup>();
     crosses::<Mail>();
     crosses::<Msg>();
+    crosses::<Outbox>();
     crosses::<Outcome>();
     crosses::<RunKind>();
     crosses::<Schedule>();
