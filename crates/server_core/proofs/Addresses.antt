@@ -48,7 +48,7 @@ module _ (s : Setting) (one : 1 ≤ s.parts) where
   access_below : (as' : List Access) (q : ℕ) → IsIn q (parts_of s.parts as') → q < s.parts
   access_below as' q i = let a = parts_from s.parts q as' i in subst (λ n. n < s.parts) a.2 (part_below a.0.key s.parts one)
 
-  home_below : (x : TxnId) → home s x < s.parts
+  pub home_below : (x : TxnId) → home s x < s.parts
   home_below x = go (s.accesses x)
     where
       go : (l : List Access) → home_in s.parts l < s.parts

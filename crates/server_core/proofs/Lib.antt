@@ -74,3 +74,4 @@ pub mod ActiveLists
 pub mod Addresses
 pub mod OwnRows
 pub mod Served
+pub mod OpeningMails
