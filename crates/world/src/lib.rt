@@ -1,0 +1,4 @@
+//! Runs of nodes under any order of deliveries.
+#![tactic(auto)]
+
+mod flight;
