@@ -1,2 +1,4 @@
 mod Joined
 mod Positions
+mod Delivering
+mod AnyRuns

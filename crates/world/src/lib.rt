@@ -3,3 +3,7 @@
 
 mod flight;
 mod picker;
+mod settling;
+mod world;
+
+pub use world::World;
