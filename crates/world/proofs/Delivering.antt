@@ -144,3 +144,23 @@ lands_at role stands protocol lands nodes w running has k i m at to =
     let land = lands w.config w.work w.progress.entries w.progress.flight m running.of_protocol running.ranges running.valid running.run (in_at w.progress.flight k m at) in
     let count = has.count in
     omega (arith, land, count, to)
+
+-- what stands where after one was put at the end
+pub push_cases : {A : Type 0} (xs : List A) (y s : A) (p : ℕ) → slice_get (xs ++ y ∷ []) p ≡ Some s → ((p ≡ length xs) × (s ≡ y)) ⊎ (slice_get xs p ≡ Some s)
+push_cases [] y s zero e = let is : y ≡ s = cc in inl (refl, sym is)
+push_cases [] y s (suc p) e = cc (e)
+push_cases (x ∷ xs) y s zero e = inr e
+push_cases (x ∷ xs) y s (suc p) e = ⊎_elim (λ h. let at = h.0 in inl (omega (arith, at), h.1)) (λ h. inr h) (push_cases xs y s p e)
+
+-- one more node that has handled nothing
+pub one_node : {S : Type 0} (role : S → Role) (stands : S → List Msg → Type 0) (of : ℕ → Role) (nodes new : List S) (y : S) (n : ℕ)
+    → ((p : ℕ) (s : S) → slice_get nodes p ≡ Some s → (role s ≡ of p) × stands s []) → length nodes ≡ n → new ≡ nodes ++ y ∷ [] → role y ≡ of n → stands y []
+    → (p : ℕ) (s : S) → slice_get new p ≡ Some s → (role s ≡ of p) × stands s []
+one_node role stands of nodes new y n each len is part stand p s e =
+    ⊎_elim
+    (λ h. (ap role h.1 ∙ part ∙ ap of (sym (h.0 ∙ len)), subst (λ z. stands z []) (sym h.1) stand))
+    (λ h. each p s h)
+    (push_cases nodes y s p (ap (λ l. slice_get l p) (sym is) ∙ e))
+
+pub none_at : {A : Type 0} (p : ℕ) (s : A) {o : Option A} → o ≡ slice_get [] p → o ≡ Some s → ⊥
+none_at p s e f = cc (e, f)

@@ -2,3 +2,4 @@ mod Joined
 mod Positions
 mod Delivering
 mod AnyRuns
+mod Openings

@@ -2,6 +2,7 @@
 #![tactic(auto)]
 
 mod flight;
+mod opening;
 mod picker;
 mod settling;
 mod world;

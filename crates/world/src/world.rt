@@ -1,12 +1,17 @@
 //! Worlds: the nodes of a run with its history and what is in flight.
-ghost use Rattle.std.specs.Prelude.{◌≡◌, ◌<◌, length, reverse, OnOk, OnErr};
-ghost use Rattle.server_core.specs.Picks.{deliver};
+ghost use Rattle.std.specs.Prelude.{◌≡◌, ◌<◌, length, reverse, IfOk, OnOk, OnErr};
+ghost use Rattle.txn_program.specs.Valid.{IsValid};
+ghost use Rattle.server_core.specs.Configs.{IsConfig};
+ghost use Rattle.server_core.specs.Picks.{begun, deliver};
 ghost use Rattle.server_core.specs.Says.{IsRun, says};
+ghost use Rattle.world.specs.Worlds.{HasNodes, IsRunning};
 
 use crate::flight::Flight;
+use crate::opening::opening;
 use crate::settling::settle;
 use deneva_base::{Config, NoMemory};
 use server_core::{Entry, Mail, Outbox, Server};
+use std::alloc::Global;
 use std::marker::Model;
 use txn_program::Workload;
 
@@ -33,10 +38,55 @@ impl<'w, S: Server<'w>> Model for World<'w, S> {
     ghost invariant = { λ w. IsRunning S.protocol (seen w.config w.work.now w.history.items (in_line w.flight w.held w.said.mails)) × HasNodes S.role S.stands w.nodes.items (seen w.config w.work.now w.history.items (in_line w.flight w.held w.said.mails)) };
 }
 
+/// Nodes that have handled nothing, one for each part.
+fn fresh_nodes<'w, S: Server<'w>>(
+    alloc: Global,
+    config: Config,
+    work: &'w Workload,
+) -> Result<Vec<S>, NoMemory>
+    requires config { IsConfig config }
+    requires valid { IsValid work.now }
+    requires protocol { config.protocol ≡ S.protocol }
+    ensures { IfOk result (λ nodes. HasNodes S.role S.stands nodes.items (record { config = config; work = work.now; progress = begun config work.now })) }
+{
+    let mut nodes = Vec::with_capacity(alloc, usize::from(config.parts))?;
+    for part in 0..config.parts {
+        nodes.push(S::begin(alloc, config, part, work)?)?;
+    }
+    Ok(nodes)
+}
+
 impl<'w, S: Server<'w>> World<'w, S> {
+    /// Nodes that have handled nothing, and the first mails in flight.
+    pub fn begin(
+        alloc: Global,
+        config: Config,
+        work: &'w Workload,
+    ) -> Result<World<'w, S>, NoMemory>
+        requires config { IsConfig config }
+        requires valid { IsValid work.now }
+        requires protocol { config.protocol ≡ S.protocol }
+        ensures config { IfOk result (λ w. w.config ≡ config) }
+        ensures work { IfOk result (λ w. w.work ≡ work.now) }
+        ensures progress { IfOk result (λ w. w.progress ≡ begun config work.now) }
+    {
+        let flight = opening(alloc, config, work)?;
+        let nodes = fresh_nodes(alloc, config, work)?;
+        Ok(World {
+            config,
+            work,
+            nodes,
+            history: Vec::new(alloc),
+            flight,
+            held: None,
+            said: Outbox::new(alloc),
+        })
+    }
+
     /// How many mails are in flight.
     pub fn in_flight(&self) -> usize
-        ensures { result ≡ length self.now.progress.flight }
+        ensures count { result ≡ length self.now.progress.flight }
+        ensures run { IsRunning S.protocol self.now }
     {
         let held = if self.held.is_some() { 1 } else { 0 };
         self.flight.len() + held + self.said.len()
