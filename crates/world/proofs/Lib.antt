@@ -3,3 +3,4 @@ mod Positions
 mod Delivering
 mod AnyRuns
 mod Openings
+mod Running

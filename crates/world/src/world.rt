@@ -1,16 +1,17 @@
 //! Worlds: the nodes of a run with its history and what is in flight.
-ghost use Rattle.std.specs.Prelude.{◌≡◌, ◌<◌, length, reverse, IfOk, OnOk, OnErr};
+ghost use Rattle.std.specs.Prelude.{◌≡◌, ◌<◌, ℕ, [], length, reverse, IfOk, OnOk, OnErr};
 ghost use Rattle.txn_program.specs.Valid.{IsValid};
 ghost use Rattle.server_core.specs.Configs.{IsConfig};
-ghost use Rattle.server_core.specs.Picks.{begun, deliver};
+ghost use Rattle.server_core.specs.Picks.{begun, deliver, deliveries, most_entries, position};
 ghost use Rattle.server_core.specs.Says.{IsRun, says};
 ghost use Rattle.world.specs.Worlds.{HasNodes, IsRunning};
 
 use crate::flight::Flight;
 use crate::opening::opening;
+use crate::picker::Picker;
 use crate::settling::settle;
 use deneva_base::{Config, NoMemory};
-use server_core::{Entry, Mail, Outbox, Server};
+use server_core::{Entry, Mail, Outbox, Schedule, Server};
 use std::alloc::Global;
 use std::marker::Model;
 use txn_program::Workload;
@@ -122,5 +123,25 @@ impl<'w, S: Server<'w>> World<'w, S> {
             msg: mail.msg,
         }));
         Ok(())
+    }
+
+    /// Delivers the mail that the schedule picks, until nothing is in flight. Where there is no memory, the deliveries so
+    /// far stand.
+    pub fn run(&mut self, schedule: &Schedule) -> Result<(), NoMemory>
+        ensures config { self.new.config ≡ self.old.config }
+        ensures work { self.new.work ≡ self.old.work }
+        ensures ok { OnOk result (self.new.progress ≡ deliveries (says self.old.config self.old.work) (position schedule.now) 0 (most_entries self.old.config self.old.work) self.old.progress) }
+        ensures quiet { OnOk result (self.new.progress.flight ≡ []) }
+        ensures err { OnErr result ((n : ℕ) × (self.new.progress ≡ deliveries (says self.old.config self.old.work) (position schedule.now) 0 n self.old.progress)) }
+    {
+        let mut picker = Picker::new(schedule);
+        loop {
+            let count = self.in_flight();
+            if count == 0 {
+                return Ok(());
+            }
+            let k = picker.next(count);
+            self.deliver(k)?;
+        }
     }
 }
