@@ -4,3 +4,4 @@ mod Delivering
 mod AnyRuns
 mod Openings
 mod Running
+mod Gathering

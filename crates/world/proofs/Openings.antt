@@ -92,7 +92,7 @@ greatest_some f n (m ∷ ns) i = ⊎_elim (λ e. let same = ap f e in omega (ari
 no_epochs : (s : Setting) → s.ids ≡ [] → epochs s ≡ 0
 no_epochs s none = greatest_none (λ q. eights (length (homes s q))) (numbers_below s.parts) (λ q. ap (λ l. eights (length (filter (λ x. eqb (home s x) q) l))) none)
 
-partition_below : (key : Key) (parts : ℕ) → 1 ≤ parts → partition_of key parts < parts
+pub partition_below : (key : Key) (parts : ℕ) → 1 ≤ parts → partition_of key parts < parts
 partition_below key parts some = go (eqb key.table 0)
   where
     go : (b : Bool) → cond b (key.a % parts) ((key.a - 1) % parts) < parts

@@ -1,24 +1,40 @@
 //! Worlds: the nodes of a run with its history and what is in flight.
-ghost use Rattle.std.specs.Prelude.{◌≡◌, ◌<◌, ℕ, [], length, reverse, IfOk, OnOk, OnErr};
+ghost use Rattle.std.specs.Prelude.{◌≡◌, ◌<◌, ℕ, [], length, reverse, true, IfOk, OnOk, OnErr};
+ghost use Rattle.deneva_base.specs.Partitions.{partition_of};
+ghost use Rattle.deneva_base.specs.Rising.{keys_rise};
+ghost use Rattle.deneva_base.specs.Rows.{row_of};
+ghost use Rattle.deneva_base.specs.declared.keys.Key.{Key};
 ghost use Rattle.txn_program.specs.Valid.{IsValid};
 ghost use Rattle.server_core.specs.Configs.{IsConfig};
+ghost use Rattle.server_core.specs.NodeRows.{rows_of_node};
 ghost use Rattle.server_core.specs.Picks.{begun, deliver, deliveries, most_entries, position};
+ghost use Rattle.server_core.specs.Runs.{heard};
 ghost use Rattle.server_core.specs.Says.{IsRun, says};
 ghost use Rattle.world.specs.Worlds.{HasNodes, IsRunning};
 
+use crate::finishing::{gather, in_key_order};
 use crate::flight::Flight;
 use crate::opening::opening;
 use crate::picker::Picker;
 use crate::settling::settle;
-use deneva_base::{Config, NoMemory};
-use server_core::{Entry, Mail, Outbox, Schedule, Server};
+use deneva_base::{Config, NoMemory, RowList};
+use server_core::{Entry, History, Mail, Outbox, Schedule, Server};
 use std::alloc::Global;
 use std::marker::Model;
 use txn_program::Workload;
 
+/// What came of a run.
+#[derive(Debug, Drop)]
+pub struct Finished {
+    pub history: History,
+    /// The rows of all nodes, in key order.
+    pub rows: RowList,
+}
+
 /// The nodes of a run, its history, and what is in flight after it.
 #[derive(Drop)]
 pub struct World<'w, S: Server<'w>> {
+    alloc: Global,
     config: Config,
     work: &'w Workload,
     nodes: Vec<S>,
@@ -74,6 +90,7 @@ impl<'w, S: Server<'w>> World<'w, S> {
         let flight = opening(alloc, config, work)?;
         let nodes = fresh_nodes(alloc, config, work)?;
         Ok(World {
+            alloc,
             config,
             work,
             nodes,
@@ -143,5 +160,19 @@ impl<'w, S: Server<'w>> World<'w, S> {
             let k = picker.next(count);
             self.deliver(k)?;
         }
+    }
+
+    /// Its history, and the rows of its nodes.
+    pub fn finish(self) -> Result<Finished, NoMemory>
+        ensures history { IfOk result (λ f. f.history ≡ reverse self.entry.progress.entries) }
+        ensures order { IfOk result (λ f. keys_rise f.rows ≡ true) }
+        ensures rows { IfOk result (λ f. (key : Key) → row_of f.rows key ≡ rows_of_node self.entry.config self.entry.work (partition_of key self.entry.config.parts) (heard (partition_of key self.entry.config.parts) self.entry.progress.entries) key) }
+        ensures run { IsRunning S.protocol self.entry }
+    {
+        let rows = in_key_order(gather(self.alloc, &self.nodes)?)?;
+        Ok(Finished {
+            history: History::of(self.history),
+            rows,
+        })
     }
 }
