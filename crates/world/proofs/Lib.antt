@@ -1,0 +1,7 @@
+mod Joined
+mod Positions
+mod Delivering
+mod AnyRuns
+mod Openings
+mod Running
+mod Gathering

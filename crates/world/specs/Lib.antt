@@ -1,0 +1,4 @@
+pub mod Chunks
+pub mod Turns
+pub mod Worlds
+pub mod Gathered

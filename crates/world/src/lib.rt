@@ -1,0 +1,11 @@
+//! Runs of nodes under any order of deliveries.
+#![tactic(auto)]
+
+mod finishing;
+mod flight;
+mod opening;
+mod picker;
+mod settling;
+mod world;
+
+pub use world::{Finished, World};
