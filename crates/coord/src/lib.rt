@@ -1,0 +1,2 @@
+//! The coordinator of a node under the voting protocols.
+#![tactic(auto)]
