@@ -1,2 +1,4 @@
+pub mod Deciding
+pub mod OneMore
 pub mod Places
 pub mod Placing

@@ -1,3 +1,5 @@
 pub mod Ballots
+pub mod Bounds
 pub mod Endings
+pub mod Left
 pub mod Placed

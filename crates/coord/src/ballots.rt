@@ -22,8 +22,8 @@ pub enum Decision {
     Abort,
 }
 
-/// The greatest number that some window may end with.
-const LAST: u64 = 1 << 63;
+/// The least upper end where there is no window.
+const NO_END: u64 = 1 << 63;
 
 /// Whether one of the votes is a No.
 fn any_says_no(ballots: &[Ballot]) -> bool
@@ -54,7 +54,7 @@ fn greatest_low(ballots: &[Ballot]) -> u64
 fn least_high(ballots: &[Ballot]) -> u64
     ensures { result ≡ least_by upper_end ballots.now }
 {
-    let mut least = LAST;
+    let mut least = NO_END;
     for ballot in ballots {
         if let Vote::Yes { hi, .. } = ballot.vote {
             least = hi.min(least);

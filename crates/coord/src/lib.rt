@@ -2,5 +2,7 @@
 #![tactic(auto)]
 
 mod ballots;
+mod counters;
 mod partitions;
+mod replies;
 mod saying;

@@ -1,4 +1,4 @@
-use Rattle.std.proofs.Common.{◌≡◌, ◌<◌, ◌≤◌, ◌+◌, ℕ, eqb, take, length, sym, ap, subst, ◌∙◌, true, arith, append-nil}
+use Rattle.std.proofs.Common.{◌≡◌, ℕ, eqb, sym, ap, subst, ◌∙◌, true, arith, append-nil}
 use Rattle.std.specs.List.{filter}
 use Rattle.std.proofs.lemmas.List.{take_all}
 use Rattle.std.proofs.lemmas.Grind.{common_steps}

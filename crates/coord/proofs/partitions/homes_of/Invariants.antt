@@ -1,4 +1,4 @@
-use Rattle.std.proofs.Common.{◌≡◌, take, ℕ, eqb}
+use Rattle.std.proofs.Common.{◌≡◌, take, eqb}
 use Rattle.std.specs.List.{filter}
 use Rattle.txn_program.specs.Serial.{all_ids, program_of}
 use Rattle.txn_program.specs.Transactions.{home_of}

@@ -1,4 +1,4 @@
-use Rattle.std.proofs.Common.{◌<◌, ◌≤◌, ◌-◌, sym, [], arith}
+use Rattle.std.proofs.Common.{◌-◌, sym, [], arith}
 use Rattle.std.proofs.lemmas.Option.{get_or_from_slice_get}
 use Rattle.txn_program.specs.declared.programs.Program.TheVariants.{Ycsb}
 use Rattle.txn_program.proofs.Ids.{id_between, id_for_each}
