@@ -3,3 +3,4 @@ pub mod Bounds
 pub mod Endings
 pub mod Left
 pub mod Placed
+pub mod Prepares
