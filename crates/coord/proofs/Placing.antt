@@ -1,5 +1,5 @@
 -- Every key of a transaction has a partition.
-use Rattle.std.proofs.Common.{ℕ, List, [], ◌∷◌, map, refl, inl, arith}
+use Rattle.std.proofs.Common.{ℕ, zero, suc, ◌≡◌, take, ap, List, [], ◌∷◌, map, refl, inl, arith}
 use Rattle.std.specs.List.{All, cons_option, filter_map}
 use Rattle.std.proofs.lemmas.List.Elements.{All-cons}
 use Rattle.deneva_base.specs.declared.keys.Access.{Access}
@@ -12,6 +12,7 @@ use Rattle.txn_program.specs.declared.programs.Program.TheVariants.{Ycsb}
 use Rattle.txn_program.specs.declared.programs.YcsbAct.{YcsbAct}
 use Rattle.txn_program.specs.declared.programs.YcsbAct.TheVariants.{Read, Update, Put}
 use Rattle.txn_program.specs.declared.programs.YcsbStep.{YcsbStep}
+use Rattle.server_core.specs.Setting.{take_first}
 use Rattle.coord.specs.Placed.{IsPlaced, ArePlaced, RowsArePlaced}
 
 no_more : {A : Type 0} (P : A → Type 0) → All P []
@@ -41,3 +42,15 @@ writes_placed load id (Ycsb steps) rows = go steps
 
 pub appends_placed : (load : Load) (id : TxnId) (program : Program) (rows : List Keyed) → RowsArePlaced (effect load id program rows).appends
 appends_placed load id (Ycsb steps) rows = no_more (λ (w : Keyed). IsPlaced w.key)
+
+-- the accesses asked so far
+pub first_ones : {A : Type 0} (n : ℕ) (xs : List A) → take_first n xs ≡ take n xs
+first_ones zero xs = refl
+first_ones (suc n) [] = refl
+first_ones (suc n) (x ∷ xs) = ap (λ l. x ∷ l) (first_ones n xs)
+
+pub first_placed : (n : ℕ) (list : List Access) → ArePlaced list → ArePlaced (take n list)
+first_placed zero list all = no_more (λ (a : Access). IsPlaced a.key)
+first_placed (suc n) [] all = no_more (λ (a : Access). IsPlaced a.key)
+first_placed (suc n) (a ∷ list) all =
+    All-cons (λ (x : Access). IsPlaced x.key) a (take n list) (all 0 a (omega arith)) (first_placed n list (λ k d less. all (suc k) d (omega (arith, less))))

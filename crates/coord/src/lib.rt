@@ -6,3 +6,5 @@ mod counters;
 mod partitions;
 mod replies;
 mod saying;
+#[cfg(test)]
+mod tests_leaves;
