@@ -5,3 +5,7 @@ pub mod Asking
 pub mod Voting
 pub mod Closing
 pub mod Starting
+pub mod Deciding
+pub mod OneMore
+pub mod Places
+pub mod Placing
