@@ -1,6 +1,5 @@
 -- A grant and a refusal: the state after it, and what is said.
 use Rattle.std.proofs.Common.{◌≡◌, ◌⊎◌, ℕ, suc, ◌+◌, ◌<◌, ◌≤◌, ◌==◌, List, [], ◌∷◌, ◌++◌, length, map, reverse, slice_get, Bool, true, false, cond, refl, sym, ap, ap₂, ◌∙◌, subst, inl, inr, arith, Option, Some, None}
-use Rattle.std.proofs.lemmas.List.{length-reverse}
 use Rattle.deneva_base.specs.declared.causes.Bound.{Bound}
 use Rattle.deneva_base.specs.declared.causes.Cause.{Cause}
 use Rattle.deneva_base.specs.declared.keys.Access.{Access}
@@ -20,9 +19,12 @@ use Rattle.server_core.specs.Setting.{Setting, take_first, parts_of, parts_for}
 use Rattle.server_core.specs.Stamps.{stamp_from, stamped}
 use Rattle.server_core.specs.VotingFits.{AllFit, IsAsking}
 use Rattle.server_core.proofs.Prepares.{slice_some, slice_none}
-use Rattle.coord.specs.States.{State, taken, going_on, next_mails, granted, granted_as, granted_mails, mails_as, refused, refused_mails, participants_of, with_left, row_read, greater, asked_of}
-use Rattle.coord.specs.Standing.{Heard, heard_of, turns_of, told_to, unvoted, unclosed, Asks, Polls, Closes, IsInPhase, IsCurrent, Follows}
-use Rattle.coord.proofs.Lists.{reverse_more, reads_more, bound_more, unvoted_none, unclosed_none, some_part, none_voted, none_closed}
+use Rattle.coord.specs.Bounds.{bound_with}
+use Rattle.coord.specs.Left.{left_to_vote, left_to_close}
+use Rattle.coord.specs.States.{State, taken, going_on, next_mails, granted, granted_as, granted_mails, mails_as, refused, refused_mails, participants_of, with_left, row_read, asked_of}
+use Rattle.coord.specs.Standing.{Heard, heard_of, turns_of, told_to, Asks, Polls, Closes, IsInPhase, IsCurrent, Follows}
+use Rattle.coord.proofs.Lists.{row_more, some_part, none_voted, none_closed}
+use Rattle.coord.proofs.OneMore.{bound_newest, voted_first, closed_first}
 use Rattle.coord.proofs.Phases.{Met, asks_met}
 use Rattle.coord.proofs.Turns.{itself}
 
@@ -64,18 +66,14 @@ module _ (s : Setting) (p : ℕ) (ms : List Msg) (who : Attempt) where
     grants_more : heard_of s p (m ∷ ms) who ≡ record { started = h.started; stamp = h.stamp; grants = r ∷ h.grants; refused = h.refused; votes = h.votes; closes = h.closes }
     grants_more = rw (itself who) refl
 
-    at_last : slice_get (s.accesses x) (length (reverse h.grants)) ≡ Some it
-    at_last = rw (length-reverse h.grants) a.2
-
     module _ (t : State) (is : t.accesses ≡ s.accesses x) (stamp : t.stamp ≡ h.stamp) (asks : Asks s x h t) where
       rows_more : t.rows ++ row_read it row ≡ reads_of (s.accesses x) (reverse (r ∷ h.grants))
-      rows_more = ap (λ (l : List Keyed). l ++ row_read it row) asks.rows ∙ sym (reads_more (s.accesses x) (reverse h.grants) r it at_last) ∙ ap (reads_of (s.accesses x)) (sym (reverse_more r h.grants))
+      rows_more = ap (λ (l : List Keyed). l ++ row_read it row) asks.rows ∙ sym (row_more (s.accesses x) h.grants r it a.2)
 
       bounds_more : (taken it r t).bound ≡ bound_of (reverse (r ∷ h.grants))
       bounds_more =
-          ap₂ (λ (n : ℕ) (b : Bound). greater (n == 0) b (record { n = bound; key = key })) (asks.count ∙ sym (length-reverse h.grants)) asks.bound
-          ∙ sym (bound_more (reverse h.grants) r)
-          ∙ ap bound_of (sym (reverse_more r h.grants))
+          ap₂ (λ (n : ℕ) (b : Bound). bound_with b bound key (n == 0)) asks.count asks.bound
+          ∙ sym (bound_newest h.grants r)
 
       next_at : slice_get t.accesses (t.granted + 1) ≡ slice_get (s.accesses x) (suc (length h.grants))
       next_at = ap₂ (λ (l : List Access) (n : ℕ). slice_get l n) is (omega (arith, asks.count))
@@ -103,7 +101,7 @@ module _ (s : Setting) (p : ℕ) (ms : List Msg) (who : Attempt) where
             unrefused = asks.unrefused;
             all = omega (arith, asks.more, slice_none (s.accesses x) (suc (length h.grants)) e);
             ballots = asks.ballots ∙ ap reverse (sym asks.votes);
-            left = parts_same ∙ sym (unvoted_none (parts_for s x)) ∙ ap (λ bs. unvoted bs (parts_for s x)) (sym asks.votes);
+            left = parts_same ∙ sym (voted_first (parts_for s x)) ∙ ap (λ bs. left_to_vote bs (parts_for s x)) (sym asks.votes);
             more = ap (λ bs. all_voted bs (parts_for s x)) asks.votes ∙ none_voted (parts_for s x) q.0 q.1;
             closes = asks.closes;
           }))
@@ -179,7 +177,7 @@ module _ (s : Setting) (p : ℕ) (ms : List Msg) (who : Attempt) where
         let q = some_part s.parts (take_first (suc (length h.grants)) (s.accesses x)) one (first_some (length h.grants) (s.accesses x) (omega (arith, asks.more))) in
         inr (inr (inl (record {
           ends = inl refl;
-          left = asked_same t is asks ∙ sym (unclosed_none told) ∙ ap (λ cs. unclosed cs told) (sym asks.closes);
+          left = asked_same t is asks ∙ sym (closed_first told) ∙ ap (λ cs. left_to_close cs told) (sym asks.closes);
           more = ap (λ cs. all_closed cs told) asks.closes ∙ none_closed told q.0 q.1;
         })))
       where

@@ -15,10 +15,12 @@ use Rattle.server_core.specs.VotingFits.{Suits, AllFit}
 use Rattle.server_core.proofs.Conditions.{undone_before}
 use Rattle.server_core.proofs.Origins.{aborted_started}
 use Rattle.server_core.proofs.Starts.{started_turn}
+use Rattle.coord.specs.Left.{left_to_close}
 use Rattle.coord.specs.States.{State, done, done_as, undone, undone_as, if_none_left, next_turn, undone_mails, risen, with_left, without}
-use Rattle.coord.specs.Standing.{Heard, heard_of, turns_of, told_to, unclosed, has_closed, IsPolled, HasDecided, IsAborted, HasEnded, Closes, IsInPhase, IsCurrent, IsShut, Follows}
+use Rattle.coord.specs.Standing.{Heard, heard_of, turns_of, told_to, has_closed, IsPolled, HasDecided, IsAborted, HasEnded, Closes, IsInPhase, IsCurrent, IsShut, Follows}
 use Rattle.coord.proofs.Asking.{Moves, goes_on}
-use Rattle.coord.proofs.Lists.{unclosed_more, unclosed_nil, unclosed_some}
+use Rattle.coord.proofs.Lists.{some_to_close}
+use Rattle.coord.proofs.OneMore.{closed_more, left_none_to_close}
 use Rattle.coord.proofs.Phases.{Met, closes_met}
 use Rattle.coord.proofs.Turns.{itself, earlier_ended}
 
@@ -69,14 +71,14 @@ module _ (s : Setting) (p : ℕ) (ms : List Msg) (fit : AllFit s p ms) (who : At
 
   -- what is left then
   module _ (t : State) (closes : Closes s x h t) where
-    left_is : without part t.left ≡ unclosed (part ∷ h.closes) (told_to s x h)
-    left_is = ap (without part) closes.left ∙ sym (unclosed_more part h.closes (told_to s x h))
+    left_is : without part t.left ≡ left_to_close (part ∷ h.closes) (told_to s x h)
+    left_is = ap (without part) closes.left ∙ sym (closed_more part h.closes (told_to s x h))
 
-    more_phase : (y : ℕ) (l : List ℕ) → unclosed (part ∷ h.closes) (told_to s x h) ≡ y ∷ l → IsInPhase s x (with_close part h) (with_left (y ∷ l) t)
-    more_phase y l e = inr (inr (inl (record { ends = closes.ends; left = sym e; more = unclosed_some (part ∷ h.closes) (told_to s x h) y l e })))
+    more_phase : (y : ℕ) (l : List ℕ) → left_to_close (part ∷ h.closes) (told_to s x h) ≡ y ∷ l → IsInPhase s x (with_close part h) (with_left (y ∷ l) t)
+    more_phase y l e = inr (inr (inl (record { ends = closes.ends; left = sym e; more = some_to_close (part ∷ h.closes) (told_to s x h) y l e })))
 
-    ended_with : unclosed (part ∷ h.closes) (told_to s x h) ≡ [] → HasEnded s x (with_close part h)
-    ended_with e = (closes.ends, unclosed_nil (part ∷ h.closes) (told_to s x h) e)
+    ended_with : left_to_close (part ∷ h.closes) (told_to s x h) ≡ [] → HasEnded s x (with_close part h)
+    ended_with e = (closes.ends, (left_none_to_close (part ∷ h.closes) (told_to s x h)).1 e)
 
   module _ (suits : Suits s p f (Done who part) ms) where
     abbrev m : Msg
@@ -92,7 +94,7 @@ module _ (s : Setting) (p : ℕ) (ms : List Msg) (fit : AllFit s p ms) (who : At
     done_there = subst (λ b. IsIn part (told_to s x (record { started = h.started; stamp = h.stamp; grants = h.grants; refused = b; votes = h.votes; closes = h.closes }))) (sym suits.4.1.0.0.1) suits.2
 
     module _ (t : State) (now : IsCurrent s x (turns_of s p ms x) t) (turn : t.turn ≡ who.turn) (closes : Closes s x h t) where
-      done_follows : (l : List ℕ) → unclosed (part ∷ h.closes) (told_to s x h) ≡ l → Follows s x (turns_of s p (m ∷ ms) x) (done_as t l)
+      done_follows : (l : List ℕ) → left_to_close (part ∷ h.closes) (told_to s x h) ≡ l → Follows s x (turns_of s p (m ∷ ms) x) (done_as t l)
       done_follows [] e =
           shut_at s p x (m ∷ ms) fit' who.turn (subst (λ n. (turns_of s p ms x n).started ≡ true) turn now.started) (λ n st. subst (λ k. n ≤ k) turn (now.latest n st))
           (subst (HasEnded s x) (sym done_heard) (ended_with t closes e)) (inl (suits.4.0, suits.4.1))
@@ -100,13 +102,13 @@ module _ (s : Setting) (p : ℕ) (ms : List Msg) (fit : AllFit s p ms) (who : At
           goes_on s x (turns_of s p ms x) (turns_of s p (m ∷ ms) x) t (with_left (y ∷ l) t) now refl refl refl (λ n. refl) (λ n. refl)
           (subst (λ n. IsInPhase s x (turns_of s p (m ∷ ms) x n) (with_left (y ∷ l) t)) (sym turn) (subst (λ k. IsInPhase s x k (with_left (y ∷ l) t)) (sym done_heard) (more_phase t closes y l e)))
 
-      done_says : (l : List ℕ) → unclosed (part ∷ h.closes) (told_to s x h) ≡ l → coordinator s p m ms ≡ if_none_left (next_start s p (overs s ms)) l
-      done_says [] e = rw (unclosed_nil (part ∷ h.closes) (told_to s x h) e) refl
-      done_says (y ∷ l) e = rw (unclosed_some (part ∷ h.closes) (told_to s x h) y l e) refl
+      done_says : (l : List ℕ) → left_to_close (part ∷ h.closes) (told_to s x h) ≡ l → coordinator s p m ms ≡ if_none_left (next_start s p (overs s ms)) l
+      done_says [] e = rw ((left_none_to_close (part ∷ h.closes) (told_to s x h)).1 e) refl
+      done_says (y ∷ l) e = rw (some_to_close (part ∷ h.closes) (told_to s x h) y l e) refl
 
-      done_over : (l : List ℕ) → unclosed (part ∷ h.closes) (told_to s x h) ≡ l → overs s (m ∷ ms) ≡ risen true (overs s ms) l
-      done_over [] e = rw (unclosed_nil (part ∷ h.closes) (told_to s x h) e) (omega arith)
-      done_over (y ∷ l) e = rw (unclosed_some (part ∷ h.closes) (told_to s x h) y l e) refl
+      done_over : (l : List ℕ) → left_to_close (part ∷ h.closes) (told_to s x h) ≡ l → overs s (m ∷ ms) ≡ risen true (overs s ms) l
+      done_over [] e = rw ((left_none_to_close (part ∷ h.closes) (told_to s x h)).1 e) (omega arith)
+      done_over (y ∷ l) e = rw (some_to_close (part ∷ h.closes) (told_to s x h) y l e) refl
 
     pub done_moves : MovesOn s p who.txn (Done who part) ms o (done part) (λ t. if_none_left (next_start s p (overs s ms)) (without part t.left)) (λ t. risen true (overs s ms) (without part t.left))
     done_moves =
@@ -118,7 +120,7 @@ module _ (s : Setting) (p : ℕ) (ms : List Msg) (fit : AllFit s p ms) (who : At
             state = t;
             is = met.is;
             now = met.now;
-            follows = subst (λ l. Follows s x (turns_of s p (m ∷ ms) x) (done_as t l)) (sym left) (done_follows t met.now met.turn met.phase (unclosed (part ∷ h.closes) (told_to s x h)) refl);
+            follows = subst (λ l. Follows s x (turns_of s p (m ∷ ms) x) (done_as t l)) (sym left) (done_follows t met.now met.turn met.phase (left_to_close (part ∷ h.closes) (told_to s x h)) refl);
             says = done_says t met.now met.turn met.phase (without part t.left) (sym left);
           };
           over = done_over t met.now met.turn met.phase (without part t.left) (sym left);
@@ -138,7 +140,7 @@ module _ (s : Setting) (p : ℕ) (ms : List Msg) (fit : AllFit s p ms) (who : At
     ends = ⊎_elim (λ r. inl r) (λ d. inr d.0) suits.4
 
     module _ (t : State) (now : IsCurrent s x (turns_of s p ms x) t) (turn : t.turn ≡ who.turn) (closes : Closes s x h t) where
-      last_follows : unclosed (part ∷ h.closes) (told_to s x h) ≡ [] → (b : Bool) → ltb who.turn s.attempts ≡ b → Follows s x (turns_of s p (n ∷ ms) x) (cond b (Some (with_left [] t)) None)
+      last_follows : left_to_close (part ∷ h.closes) (told_to s x h) ≡ [] → (b : Bool) → ltb who.turn s.attempts ≡ b → Follows s x (turns_of s p (n ∷ ms) x) (cond b (Some (with_left [] t)) None)
       last_follows e true less =
           goes_on s x (turns_of s p ms x) (turns_of s p (n ∷ ms) x) t (with_left [] t) now refl refl refl (λ k. refl) (λ k. refl)
           (subst (λ k. IsInPhase s x (turns_of s p (n ∷ ms) x k) (with_left [] t)) (sym turn)
@@ -154,25 +156,25 @@ module _ (s : Setting) (p : ℕ) (ms : List Msg) (fit : AllFit s p ms) (who : At
           none_left : s.attempts ≤ who.turn
           none_left = grind (arith, nat_tests, less)
 
-      undone_follows : (l : List ℕ) → unclosed (part ∷ h.closes) (told_to s x h) ≡ l → Follows s x (turns_of s p (n ∷ ms) x) (undone_as s who t l)
+      undone_follows : (l : List ℕ) → left_to_close (part ∷ h.closes) (told_to s x h) ≡ l → Follows s x (turns_of s p (n ∷ ms) x) (undone_as s who t l)
       undone_follows [] e = last_follows e (ltb who.turn s.attempts) refl
       undone_follows (y ∷ l) e =
           goes_on s x (turns_of s p ms x) (turns_of s p (n ∷ ms) x) t (with_left (y ∷ l) t) now refl refl refl (λ k. refl) (λ k. refl)
           (subst (λ k. IsInPhase s x (turns_of s p (n ∷ ms) x k) (with_left (y ∷ l) t)) (sym turn) (subst (λ k. IsInPhase s x k (with_left (y ∷ l) t)) (sym undone_heard) (more_phase t closes y l e)))
 
-      undone_says : (l : List ℕ) → unclosed (part ∷ h.closes) (told_to s x h) ≡ l → coordinator s p n ms ≡ if_none_left (undone_mails s p who (next_start s p (overs s ms))) l
-      undone_says [] e = rw (unclosed_nil (part ∷ h.closes) (told_to s x h) e) (ap (λ k. cond (ltb who.turn s.attempts) (record { from = p; to = p; msg = Start (record { txn = who.txn; turn = k }) } ∷ []) (next_start s p (overs s ms))) (one who.turn))
+      undone_says : (l : List ℕ) → left_to_close (part ∷ h.closes) (told_to s x h) ≡ l → coordinator s p n ms ≡ if_none_left (undone_mails s p who (next_start s p (overs s ms))) l
+      undone_says [] e = rw ((left_none_to_close (part ∷ h.closes) (told_to s x h)).1 e) (ap (λ k. cond (ltb who.turn s.attempts) (record { from = p; to = p; msg = Start (record { txn = who.txn; turn = k }) } ∷ []) (next_start s p (overs s ms))) (one who.turn))
         where
           one : (k : ℕ) → suc k ≡ k + 1
           one k = omega arith
-      undone_says (y ∷ l) e = rw (unclosed_some (part ∷ h.closes) (told_to s x h) y l e) refl
+      undone_says (y ∷ l) e = rw (some_to_close (part ∷ h.closes) (told_to s x h) y l e) refl
 
-      undone_over : (l : List ℕ) → unclosed (part ∷ h.closes) (told_to s x h) ≡ l → overs s (n ∷ ms) ≡ risen (not (ltb who.turn s.attempts)) (overs s ms) l
-      undone_over [] e = rw (unclosed_nil (part ∷ h.closes) (told_to s x h) e) (ap (λ k. cond (not (ltb who.turn s.attempts)) k (overs s ms)) (one (overs s ms)))
+      undone_over : (l : List ℕ) → left_to_close (part ∷ h.closes) (told_to s x h) ≡ l → overs s (n ∷ ms) ≡ risen (not (ltb who.turn s.attempts)) (overs s ms) l
+      undone_over [] e = rw ((left_none_to_close (part ∷ h.closes) (told_to s x h)).1 e) (ap (λ k. cond (not (ltb who.turn s.attempts)) k (overs s ms)) (one (overs s ms)))
         where
           one : (k : ℕ) → suc k ≡ k + 1
           one k = omega arith
-      undone_over (y ∷ l) e = rw (unclosed_some (part ∷ h.closes) (told_to s x h) y l e) refl
+      undone_over (y ∷ l) e = rw (some_to_close (part ∷ h.closes) (told_to s x h) y l e) refl
 
     pub undone_moves : MovesOn s p who.txn (Undone who part) ms o (undone s who part) (λ t. if_none_left (undone_mails s p who (next_start s p (overs s ms))) (without part t.left)) (λ t. risen (not (ltb who.turn s.attempts)) (overs s ms) (without part t.left))
     undone_moves =
@@ -184,7 +186,7 @@ module _ (s : Setting) (p : ℕ) (ms : List Msg) (fit : AllFit s p ms) (who : At
             state = t;
             is = met.is;
             now = met.now;
-            follows = subst (λ l. Follows s x (turns_of s p (n ∷ ms) x) (undone_as s who t l)) (sym left) (undone_follows t met.now met.turn met.phase (unclosed (part ∷ h.closes) (told_to s x h)) refl);
+            follows = subst (λ l. Follows s x (turns_of s p (n ∷ ms) x) (undone_as s who t l)) (sym left) (undone_follows t met.now met.turn met.phase (left_to_close (part ∷ h.closes) (told_to s x h)) refl);
             says = undone_says t met.now met.turn met.phase (without part t.left) (sym left);
           };
           over = undone_over t met.now met.turn met.phase (without part t.left) (sym left);

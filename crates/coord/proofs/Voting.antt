@@ -13,10 +13,12 @@ use Rattle.server_core.specs.Coordinator.{coordinator, decision, first_no, to_al
 use Rattle.server_core.specs.Replies.{Ballot, votes_for, all_voted, all_closed}
 use Rattle.server_core.specs.Setting.{Setting, parts_of, parts_for, participants}
 use Rattle.server_core.specs.VotingFits.{AllFit, HasAll, HasVoted}
+use Rattle.coord.specs.Left.{left_to_vote, left_to_close}
 use Rattle.coord.specs.States.{State, voted, voted_as, voted_mails, verdict_mails, votes_of, participants_of, with_left, with_ballot, without}
-use Rattle.coord.specs.Standing.{Heard, heard_of, turns_of, told_to, unvoted, unclosed, Polls, Closes, IsInPhase, IsCurrent, Follows}
+use Rattle.coord.specs.Standing.{Heard, heard_of, turns_of, told_to, Polls, Closes, IsInPhase, IsCurrent, Follows}
 use Rattle.coord.proofs.Asking.{Moves, goes_on}
-use Rattle.coord.proofs.Lists.{reverse_more, unvoted_more, unvoted_nil, unvoted_some, unclosed_none, none_closed}
+use Rattle.coord.proofs.Lists.{reverse_more, some_to_vote, none_closed}
+use Rattle.coord.proofs.OneMore.{voted_more, left_none, closed_first}
 use Rattle.coord.proofs.Phases.{Met, votes_met}
 use Rattle.coord.proofs.Turns.{itself}
 
@@ -34,8 +36,8 @@ module _ (s : Setting) (p : ℕ) (ms : List Msg) (who : Attempt) (b : Ballot) (t
   qs = parts_for s x
 
   module _ (t : State) (is : t.accesses ≡ s.accesses x) (polls : Polls s x h t) where
-    left_is : without b.part t.left ≡ unvoted (b ∷ h.votes) qs
-    left_is = ap (without b.part) polls.left ∙ sym (unvoted_more b h.votes qs)
+    left_is : without b.part t.left ≡ left_to_vote (b ∷ h.votes) qs
+    left_is = ap (without b.part) polls.left ∙ sym (voted_more b h.votes qs)
 
     ballots_more : t.ballots ++ b ∷ [] ≡ reverse (b ∷ h.votes)
     ballots_more = ap (λ (l : List Ballot). l ++ b ∷ []) polls.ballots ∙ sym (reverse_more b h.votes)
@@ -46,10 +48,10 @@ module _ (s : Setting) (p : ℕ) (ms : List Msg) (who : Attempt) (b : Ballot) (t
     votes_are : votes_of b t ≡ b ∷ h.votes
     votes_are = ap reverse ballots_more ∙ reverse-reverse (b ∷ h.votes)
 
-    phase_with : (l : List ℕ) → unvoted (b ∷ h.votes) qs ≡ l → IsInPhase s x (with_vote b h) (voted_as s b t l)
+    phase_with : (l : List ℕ) → left_to_vote (b ∷ h.votes) qs ≡ l → IsInPhase s x (with_vote b h) (voted_as s b t l)
     phase_with [] e = inr (inr (inl (record {
-      ends = inr (all, unvoted_nil (b ∷ h.votes) qs e);
-      left = parts_same ∙ sym (unclosed_none qs) ∙ ap₂ (λ cs (r : Bool). unclosed cs (told_to s x (record { started = h.started; stamp = h.stamp; grants = h.grants; refused = r; votes = b ∷ h.votes; closes = h.closes }))) (sym polls.closes) (sym polls.unrefused);
+      ends = inr (all, (left_none (b ∷ h.votes) qs).1 e);
+      left = parts_same ∙ sym (closed_first qs) ∙ ap₂ (λ cs (r : Bool). left_to_close cs (told_to s x (record { started = h.started; stamp = h.stamp; grants = h.grants; refused = r; votes = b ∷ h.votes; closes = h.closes }))) (sym polls.closes) (sym polls.unrefused);
       more = ap₂ (λ cs (r : Bool). all_closed cs (told_to s x (record { started = h.started; stamp = h.stamp; grants = h.grants; refused = r; votes = b ∷ h.votes; closes = h.closes }))) polls.closes polls.unrefused ∙ none_closed qs b.part there;
     })))
     phase_with (y ∷ l) e = inr (inl (record {
@@ -57,13 +59,13 @@ module _ (s : Setting) (p : ℕ) (ms : List Msg) (who : Attempt) (b : Ballot) (t
       all = polls.all;
       ballots = ballots_more;
       left = sym e;
-      more = unvoted_some (b ∷ h.votes) qs y l e;
+      more = some_to_vote (b ∷ h.votes) qs y l e;
       closes = polls.closes;
     }))
 
-    says_with : (l : List ℕ) → unvoted (b ∷ h.votes) qs ≡ l → polled s p who (b ∷ h.votes) ≡ verdict_mails s p who b t l
-    says_with [] e = rw (unvoted_nil (b ∷ h.votes) qs e) (ap₂ (λ bs ps. to_all p (decision who bs (first_no None bs)) ps) (sym votes_are) (sym parts_same))
-    says_with (y ∷ l) e = rw (unvoted_some (b ∷ h.votes) qs y l e) refl
+    says_with : (l : List ℕ) → left_to_vote (b ∷ h.votes) qs ≡ l → polled s p who (b ∷ h.votes) ≡ verdict_mails s p who b t l
+    says_with [] e = rw ((left_none (b ∷ h.votes) qs).1 e) (ap₂ (λ bs ps. to_all p (decision who bs (first_no None bs)) ps) (sym votes_are) (sym parts_same))
+    says_with (y ∷ l) e = rw (some_to_vote (b ∷ h.votes) qs y l e) refl
 
     turn_same : (l : List ℕ) → (voted_as s b t l).turn ≡ t.turn
     turn_same [] = refl
@@ -83,14 +85,14 @@ module _ (s : Setting) (p : ℕ) (ms : List Msg) (who : Attempt) (b : Ballot) (t
         let met = votes_met s p ms fit who o follows b.part there all once in
         let t = met.state in
         let left = left_is t met.now.accesses met.phase in
-        let phase : IsInPhase s x (with_vote b h) (voted s b t) = subst (λ l. IsInPhase s x (with_vote b h) (voted_as s b t l)) (sym left) (phase_with t met.now.accesses met.phase (unvoted (b ∷ h.votes) qs) refl) in
+        let phase : IsInPhase s x (with_vote b h) (voted s b t) = subst (λ l. IsInPhase s x (with_vote b h) (voted_as s b t l)) (sym left) (phase_with t met.now.accesses met.phase (left_to_vote (b ∷ h.votes) qs) refl) in
         record {
           state = t;
           is = met.is;
           now = met.now;
           follows = goes_on s x (turns_of s p ms x) (turns_of s p (m ∷ ms) x) t (voted s b t) met.now (turn_same t met.now.accesses met.phase (without b.part t.left)) (accesses_same t met.now.accesses met.phase (without b.part t.left)) (stamp_same t met.now.accesses met.phase (without b.part t.left)) started stamps
           (subst (λ n. IsInPhase s x (turns_of s p (m ∷ ms) x n) (voted s b t)) (sym met.turn) (subst (λ k. IsInPhase s x k (voted s b t)) (sym more) phase));
-          says = says' ∙ says_with t met.now.accesses met.phase (unvoted (b ∷ h.votes) qs) refl ∙ ap (verdict_mails s p who b t) (sym left);
+          says = says' ∙ says_with t met.now.accesses met.phase (left_to_vote (b ∷ h.votes) qs) refl ∙ ap (verdict_mails s p who b t) (sym left);
         }
 
 module _ (s : Setting) (p : ℕ) (ms : List Msg) (fit : AllFit s p ms) (who : Attempt) (o : Option State) (follows : Follows s who.txn (turns_of s p ms who.txn) o) (part : ℕ) (there : IsIn part (participants s who)) (all : HasAll s ms who) (once : HasVoted ms who part → ⊥) where

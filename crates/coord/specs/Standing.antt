@@ -1,7 +1,6 @@
 -- What a coordinator stands for: the messages that it has handled, of which it keeps for each home transaction that is
 -- started and not over the state of its current attempt.
 use Rattle.std.specs.Prelude.{◌≡◌, ◌⊎◌, ℕ, suc, ◌+◌, ◌^◌, ◌<◌, ◌≤◌, List, [], ◌∷◌, length, reverse, filter, Bool, true, false, cond, not, eqb, Option, Some, None}
-use Rattle.std.specs.List.{list_any}
 use Rattle.deneva_base.specs.declared.causes.Bound.{Bound}
 use Rattle.deneva_base.specs.declared.numbers.Attempt.{Attempt}
 use Rattle.deneva_base.specs.declared.numbers.Number.{Number}
@@ -13,6 +12,7 @@ use Rattle.server_core.specs.Replies.{Reply, Ballot, grants_for, votes_for, refu
 use Rattle.server_core.specs.Setting.{Setting, take_first, parts_of, parts_for}
 use Rattle.server_core.specs.Stamps.{stamp_from, stamped}
 use Rattle.server_core.specs.VotingFits.{AllFit}
+use Rattle.coord.specs.Left.{left_to_vote, left_to_close}
 use Rattle.coord.specs.States.{State}
 
 -- what came for one attempt
@@ -59,13 +59,6 @@ has_closed s x h = all_closed h.closes (told_to s x h)
 abbrev pub HasEnded : Setting → TxnId → Heard → Type 0
 HasEnded s x h = ((h.refused ≡ true) ⊎ IsPolled s x h) × (has_closed s x h ≡ true)
 
--- those of the partitions that have not voted, or have not closed
-abbrev pub unvoted : List Ballot → List ℕ → List ℕ
-unvoted bs qs = filter (λ q. not (list_any (λ b. eqb b.part q) bs)) qs
-
-abbrev pub unclosed : List ℕ → List ℕ → List ℕ
-unclosed cs qs = filter (λ q. not (list_any (λ c. eqb c q) cs)) qs
-
 -- it asks for one access after another
 pub record Asks (s : Setting) (x : TxnId) (h : Heard) (t : State) : Type 0 where
   pub unrefused : h.refused ≡ false
@@ -82,14 +75,14 @@ pub record Polls (s : Setting) (x : TxnId) (h : Heard) (t : State) : Type 0 wher
   pub unrefused : h.refused ≡ false
   pub all : length h.grants ≡ length (s.accesses x)
   pub ballots : t.ballots ≡ reverse h.votes
-  pub left : t.left ≡ unvoted h.votes (parts_for s x)
+  pub left : t.left ≡ left_to_vote h.votes (parts_for s x)
   pub more : all_voted h.votes (parts_for s x) ≡ false
   pub closes : h.closes ≡ []
 
 -- it ends at the partitions that were told
 pub record Closes (s : Setting) (x : TxnId) (h : Heard) (t : State) : Type 0 where
   pub ends : (h.refused ≡ true) ⊎ IsPolled s x h
-  pub left : t.left ≡ unclosed h.closes (told_to s x h)
+  pub left : t.left ≡ left_to_close h.closes (told_to s x h)
   pub more : has_closed s x h ≡ false
 
 -- it was aborted everywhere, and its next turn is on its way

@@ -12,6 +12,7 @@ use Rattle.server_core.specs.declared.messages.Msg.TheVariants.{Start, Abort}
 use Rattle.server_core.specs.Coordinator.{ask_of, prepare_to, to_all, decision, first_no}
 use Rattle.server_core.specs.Replies.{Reply, Ballot}
 use Rattle.server_core.specs.Setting.{Setting, take_first, parts_of}
+use Rattle.coord.specs.Bounds.{bound_with}
 
 -- while it asks, the accesses granted so far: their number, the rows of those that read, and the greatest bound; then the
 -- votes, the oldest first, and the partitions that have not voted; then the partitions from which no Done or Undone came
@@ -35,10 +36,6 @@ begun turn stamp accesses = record { turn = turn; stamp = stamp; accesses = acce
 abbrev pub row_read : Access → Row → List Keyed
 row_read a row = cond (reads a.mode) (record { key = a.key; row = row } ∷ []) []
 
--- the first bound, or the greater one
-abbrev pub greater : Bool → Bound → Bound → Bound
-greater first best b = cond first b (cond (ltb best.n b.n) b best)
-
 -- one more access is granted
 abbrev pub taken : Access → Reply → State → State
 taken a r t = record {
@@ -47,7 +44,7 @@ taken a r t = record {
   accesses = t.accesses;
   granted = t.granted + 1;
   rows = t.rows ++ row_read a r.row;
-  bound = greater (t.granted == 0) t.bound (record { n = r.bound; key = r.key });
+  bound = bound_with t.bound r.bound r.key (t.granted == 0);
   ballots = t.ballots;
   left = t.left;
 }
