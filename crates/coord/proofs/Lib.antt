@@ -9,3 +9,4 @@ pub mod Deciding
 pub mod OneMore
 pub mod Places
 pub mod Placing
+pub mod Votes

@@ -14,7 +14,7 @@ use Rattle.server_core.specs.Replies.{Ballot, votes_for, all_voted, all_closed}
 use Rattle.server_core.specs.Setting.{Setting, parts_of, parts_for, participants}
 use Rattle.server_core.specs.VotingFits.{AllFit, HasAll, HasVoted}
 use Rattle.coord.specs.Left.{left_to_vote, left_to_close}
-use Rattle.coord.specs.States.{State, voted, voted_as, voted_mails, verdict_mails, votes_of, participants_of, with_left, with_ballot, without}
+use Rattle.coord.specs.States.{State, voted, voted_as, voted_mails, verdict_mails, participants_of, with_left, with_ballot, without}
 use Rattle.coord.specs.Standing.{Heard, heard_of, turns_of, told_to, Polls, Closes, IsInPhase, IsCurrent, Follows}
 use Rattle.coord.proofs.Asking.{Moves, goes_on}
 use Rattle.coord.proofs.Lists.{reverse_more, some_to_vote, none_closed}
@@ -45,7 +45,7 @@ module _ (s : Setting) (p : ℕ) (ms : List Msg) (who : Attempt) (b : Ballot) (t
     parts_same : participants_of s t ≡ qs
     parts_same = ap (parts_of s.parts) is
 
-    votes_are : votes_of b t ≡ b ∷ h.votes
+    votes_are : reverse (t.ballots ++ b ∷ []) ≡ b ∷ h.votes
     votes_are = ap reverse ballots_more ∙ reverse-reverse (b ∷ h.votes)
 
     phase_with : (l : List ℕ) → left_to_vote (b ∷ h.votes) qs ≡ l → IsInPhase s x (with_vote b h) (voted_as s b t l)

@@ -1,3 +1,4 @@
+pub mod Attempts
 pub mod States
 pub mod Standing
 pub mod Ballots
@@ -6,3 +7,4 @@ pub mod Endings
 pub mod Left
 pub mod Placed
 pub mod Prepares
+pub mod Open

@@ -104,11 +104,12 @@ voted_as s b t (q ∷ left) = with_ballot b (q ∷ left) t
 abbrev pub voted : Setting → Ballot → State → State
 voted s b t = voted_as s b t (without b.part t.left)
 
-abbrev pub votes_of : Ballot → State → List Ballot
-votes_of b t = reverse (t.ballots ++ b ∷ [])
+-- what the votes decide, told to all participants
+abbrev pub decision_mails : Setting → ℕ → Attempt → State → List Mail
+decision_mails s p who t = to_all p (decision who (reverse t.ballots) (first_no None (reverse t.ballots))) (participants_of s t)
 
 abbrev pub verdict_mails : Setting → ℕ → Attempt → Ballot → State → List ℕ → List Mail
-verdict_mails s p who b t [] = to_all p (decision who (votes_of b t) (first_no None (votes_of b t))) (participants_of s t)
+verdict_mails s p who b t [] = decision_mails s p who (with_ballot b [] t)
 verdict_mails s p who b t (q ∷ left) = []
 
 abbrev pub voted_mails : Setting → ℕ → Attempt → Ballot → State → List Mail

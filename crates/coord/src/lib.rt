@@ -1,8 +1,11 @@
 //! The coordinator of a node under the voting protocols.
 #![tactic(auto)]
 
+mod attempts;
 mod ballots;
 mod counters;
+mod home;
+mod open;
 mod partitions;
 mod replies;
 mod saying;
