@@ -22,7 +22,7 @@ use Rattle.server_core.proofs.Prepares.{slice_some, slice_none}
 use Rattle.coord.specs.Bounds.{bound_with}
 use Rattle.coord.specs.Left.{left_to_vote, left_to_close}
 use Rattle.coord.specs.States.{State, taken, going_on, next_mails, granted, granted_as, granted_mails, mails_as, refused, refused_mails, participants_of, with_left, row_read, asked_of}
-use Rattle.coord.specs.Standing.{Heard, heard_of, turns_of, told_to, Asks, Polls, Closes, IsInPhase, IsCurrent, Follows}
+use Rattle.coord.specs.Following.{Heard, heard_of, turns_of, told_to, Asks, Polls, Closes, IsInPhase, IsCurrent, Follows}
 use Rattle.coord.proofs.Lists.{row_more, some_part, none_voted, none_closed}
 use Rattle.coord.proofs.OneMore.{bound_newest, voted_first, closed_first}
 use Rattle.coord.proofs.Phases.{Met, asks_met}

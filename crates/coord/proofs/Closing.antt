@@ -17,7 +17,7 @@ use Rattle.server_core.proofs.Origins.{aborted_started}
 use Rattle.server_core.proofs.Starts.{started_turn}
 use Rattle.coord.specs.Left.{left_to_close}
 use Rattle.coord.specs.States.{State, done, done_as, undone, undone_as, if_none_left, next_turn, undone_mails, risen, with_left, without}
-use Rattle.coord.specs.Standing.{Heard, heard_of, turns_of, told_to, has_closed, IsPolled, HasDecided, IsAborted, HasEnded, Closes, IsInPhase, IsCurrent, IsShut, Follows}
+use Rattle.coord.specs.Following.{Heard, heard_of, turns_of, told_to, has_closed, IsPolled, HasDecided, IsAborted, HasEnded, Closes, IsInPhase, IsCurrent, IsShut, Follows}
 use Rattle.coord.proofs.Asking.{Moves, goes_on}
 use Rattle.coord.proofs.Lists.{some_to_close}
 use Rattle.coord.proofs.OneMore.{closed_more, left_none_to_close}

@@ -10,3 +10,5 @@ pub mod OneMore
 pub mod Places
 pub mod Placing
 pub mod Votes
+pub mod Opens
+pub mod Ending

@@ -16,7 +16,7 @@ use Rattle.server_core.proofs.Decisions.{asks_no_more}
 use Rattle.server_core.proofs.Ends.{not_all, off_if}
 use Rattle.server_core.proofs.Lines.{closed_there}
 use Rattle.coord.specs.States.{State}
-use Rattle.coord.specs.Standing.{Heard, heard_of, turns_of, told_to, IsPolled, HasEnded, Asks, Polls, Closes, Restarts, IsInPhase, IsCurrent, Follows}
+use Rattle.coord.specs.Following.{Heard, heard_of, turns_of, told_to, IsPolled, HasEnded, Asks, Polls, Closes, Restarts, IsInPhase, IsCurrent, Follows}
 use Rattle.coord.proofs.Turns.{current}
 
 -- the current attempt, in a phase

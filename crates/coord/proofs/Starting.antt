@@ -23,7 +23,7 @@ use Rattle.server_core.proofs.Conditions.{undone_before, not_both}
 use Rattle.server_core.proofs.Ends.{off_if}
 use Rattle.server_core.proofs.Origins.{aborted_started, refused_starts}
 use Rattle.coord.specs.States.{State, begun, kept_stamp}
-use Rattle.coord.specs.Standing.{Heard, heard_of, turns_of, Asks, IsInPhase, IsCurrent, IsShut, Follows}
+use Rattle.coord.specs.Following.{Heard, heard_of, turns_of, Asks, IsInPhase, IsCurrent, IsShut, Follows}
 use Rattle.coord.proofs.Turns.{itself}
 
 -- without a Start there was no vote

@@ -16,7 +16,7 @@ use Rattle.server_core.specs.VotingFits.{AllFit}
 use Rattle.server_core.proofs.Conditions.{undone_before}
 use Rattle.server_core.proofs.Starts.{started_turn}
 use Rattle.coord.specs.States.{State}
-use Rattle.coord.specs.Standing.{Heard, heard_of, turns_of, HasEnded, IsCurrent, Follows}
+use Rattle.coord.specs.Following.{Heard, heard_of, turns_of, HasEnded, IsCurrent, Follows}
 
 -- the message is one to the home of the transaction
 abbrev pub touches : TxnId → Msg → Bool

@@ -15,7 +15,7 @@ use Rattle.server_core.specs.Setting.{Setting, parts_of, parts_for, participants
 use Rattle.server_core.specs.VotingFits.{AllFit, HasAll, HasVoted}
 use Rattle.coord.specs.Left.{left_to_vote, left_to_close}
 use Rattle.coord.specs.States.{State, voted, voted_as, voted_mails, verdict_mails, participants_of, with_left, with_ballot, without}
-use Rattle.coord.specs.Standing.{Heard, heard_of, turns_of, told_to, Polls, Closes, IsInPhase, IsCurrent, Follows}
+use Rattle.coord.specs.Following.{Heard, heard_of, turns_of, told_to, Polls, Closes, IsInPhase, IsCurrent, Follows}
 use Rattle.coord.proofs.Asking.{Moves, goes_on}
 use Rattle.coord.proofs.Lists.{reverse_more, some_to_vote, none_closed}
 use Rattle.coord.proofs.OneMore.{voted_more, left_none, closed_first}

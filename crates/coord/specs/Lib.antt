@@ -1,6 +1,6 @@
 pub mod Attempts
 pub mod States
-pub mod Standing
+pub mod Following
 pub mod Ballots
 pub mod Bounds
 pub mod Endings
@@ -8,3 +8,5 @@ pub mod Left
 pub mod Placed
 pub mod Prepares
 pub mod Open
+pub mod Moves
+pub mod Standing

@@ -151,3 +151,11 @@ risen over n (q ∷ left) = n
 abbrev pub kept_stamp : Option State → ℕ
 kept_stamp None = 0
 kept_stamp (Some t) = t.stamp
+
+-- what is said when an attempt begins
+abbrev pub ask_first : Setting → ℕ → Attempt → ℕ → Option Access → List Mail
+ask_first s p who stamp None = []
+ask_first s p who stamp (Some a) = ask_of s p who stamp a ∷ []
+
+abbrev pub first_ask : Setting → ℕ → Attempt → ℕ → List Mail
+first_ask s p who stamp = ask_first s p who stamp (slice_get (s.accesses who.txn) 0)

@@ -3,6 +3,7 @@
 
 mod attempts;
 mod ballots;
+mod coord;
 mod counters;
 mod home;
 mod open;
@@ -11,3 +12,5 @@ mod replies;
 mod saying;
 #[cfg(test)]
 mod tests_leaves;
+
+pub use coord::Coord;

@@ -63,6 +63,24 @@ pub(crate) fn say_to_all(
     Ok(())
 }
 
+/// The mail that asks the partition of its key for an access.
+pub(crate) fn ask_mail(parts: u8, from: u8, who: Attempt, stamp: u64, access: Access) -> Mail
+    requires parts { 1 ≤ parts }
+    requires placed { IsPlaced access.key }
+    ensures { (s : Setting) → s.parts ≡ parts → result ≡ ask_of s from who stamp access }
+{
+    Mail {
+        from,
+        to: part_of(access.key, parts),
+        msg: Msg::Ask {
+            who,
+            stamp,
+            key: access.key,
+            mode: access.mode,
+        },
+    }
+}
+
 /// Asks the partition of its key for an access.
 pub(crate) fn say_ask(
     out: &mut Outbox,
@@ -77,19 +95,7 @@ pub(crate) fn say_ask(
     ensures ok { OnOk result ((s : Setting) → s.parts ≡ parts → out.new.mails ≡ out.old.mails ++ ask_of s from who stamp access ∷ []) }
     ensures err { OnErr result (out.new.mails ≡ out.old.mails) }
 {
-    say(
-        out,
-        Mail {
-            from,
-            to: part_of(access.key, parts),
-            msg: Msg::Ask {
-                who,
-                stamp,
-                key: access.key,
-                mode: access.mode,
-            },
-        },
-    )
+    say(out, ask_mail(parts, from, who, stamp, access))
 }
 
 /// Has a node begin an attempt of a transaction of its own.
