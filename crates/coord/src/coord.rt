@@ -192,4 +192,38 @@ impl<'w> Coord<'w> {
         self.open.closed(who.txn, part);
         Ok(())
     }
+
+    /// Handles a message: what the coordinator says goes to the end of `out`. It has nothing to say to those of participants.
+    /// Want of memory leaves the coordinator and the mails as they were.
+    pub fn step(&mut self, msg: &Msg, out: &mut Outbox) -> Result<(), NoMemory>
+        requires fits { (from : ℕ) × ((ms : List messages.Msg) × (Coordinates self.old ms × FitsRole (role_of self.old) from msg.now ms)) }
+        ensures role { role_of self.new ≡ role_of self.old }
+        ensures says { OnOk result ((from : ℕ) (ms : List messages.Msg) → Coordinates self.old ms → FitsRole (role_of self.old) from msg.now ms → out.new.mails ≡ out.old.mails ++ coordinator (setting (role_of self.old).config (role_of self.old).work) (role_of self.old).part msg.now ms) }
+        ensures stands { OnOk result ((from : ℕ) (ms : List messages.Msg) → Coordinates self.old ms → FitsRole (role_of self.old) from msg.now ms → Coordinates self.new (msg.now ∷ ms)) }
+        ensures same_mails { OnErr result (out.new.mails ≡ out.old.mails) }
+        ensures same { OnErr result ((ms : List messages.Msg) → Coordinates self.old ms → Coordinates self.new ms) }
+    {
+        match msg {
+            Msg::Start { who } => self.start(*who, out),
+            Msg::Granted {
+                who,
+                key,
+                row,
+                bound,
+                ..
+            } => self.open.granted(&self.home, *who, *key, row, *bound, out),
+            Msg::Refused { who, cause, .. } => self.refused(*who, cause, out),
+            Msg::Yes { who, part, lo, hi } => {
+                let vote = Vote::Yes { lo: *lo, hi: *hi };
+                self.open.voted(&self.home, *who, Ballot { part: *part, vote }, out)
+            }
+            Msg::No { who, part, cause } => {
+                let vote = Vote::No(*cause);
+                self.open.voted(&self.home, *who, Ballot { part: *part, vote }, out)
+            }
+            Msg::Done { who, part } => self.done(*who, *part, out),
+            Msg::Undone { who, part } => self.undone(*who, *part, out),
+            _ => Ok(()),
+        }
+    }
 }

@@ -22,7 +22,11 @@ returns-then-who-self-clause-said c =
     on_ok_weaker c.end.result (λ e t is. said_now _ t _ _ _ (sym (c.is_last.ensures t is) ∙ c.if-not-is_last.false) (e ∙ ap (λ l. c.args.out.now.mails ++ l) (over_says (setting_at c.args.self.now.home) c.args.self.now.home.part c.args.who _ less))) c.end.ensures.said
 
 pub returns-clause-said : goal.returns-clause-said
-returns-clause-said c t is = ?
+returns-clause-said c t is =
+    let less : ltb c.args.who.turn c.args.self.now.home.config.attempts ≡ true = grind (arith, nat_tests) in
+    said_now _ t _ _ _ (sym (c.is_last.ensures t is) ∙ c.if-not-is_last.false) (c.in_ok-say_start.ensures.ok ∙ ap (λ l. c.args.out.now.mails ++ l) (again_says (setting_at c.args.self.now.home) c.args.self.now.home.part c.args.who _ less))
 
 pub returns-clause-ok : goal.returns-clause-ok
-returns-clause-ok c t is = ?
+returns-clause-ok c t is =
+    let less : ltb c.args.who.turn c.args.self.now.home.config.attempts ≡ true = grind (arith, nat_tests) in
+    undone_again _ _ _ _ t (setting_at c.args.self.now.home) c.args.who (sym (c.is_last.ensures t is) ∙ c.if-not-is_last.false) less (record { home = refl; fixed = refl; homes = refl; count = refl; place = refl; sets = c.closed-2.ensures t is })
