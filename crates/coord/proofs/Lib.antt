@@ -12,3 +12,6 @@ pub mod Placing
 pub mod Votes
 pub mod Opens
 pub mod Ending
+pub mod Steps
+pub mod Messages
+pub mod Passing

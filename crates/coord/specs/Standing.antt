@@ -1,5 +1,5 @@
 -- What a coordinator stands for: the messages that it has handled, the newest first.
-use Rattle.std.specs.Prelude.{◌≡◌, ℕ, ◌+◌, ◌^◌, ◌≤◌, List, length, Bool, Option}
+use Rattle.std.specs.Prelude.{◌≡◌, ℕ, ◌+◌, ◌^◌, ◌≤◌, List, length, Bool, true, false, Option}
 use Rattle.deneva_base.specs.declared.numbers.TxnId.{TxnId}
 use Rattle.server_core.specs.Configs.{IsVoting}
 use Rattle.server_core.specs.Coordinator.{overs}
@@ -8,6 +8,7 @@ use Rattle.server_core.specs.Setting.{homes}
 use Rattle.server_core.specs.Stamps.{counter}
 use Rattle.server_core.specs.VotingFits.{AllFit}
 use Rattle.server_core.specs.declared.messages.Msg.{Msg}
+use Rattle.server_core.specs.declared.messages.Msg.TheVariants.{Ask, Prepare, Commit, Abort}
 use Rattle.coord.specs.declared.coord.Coord.{Coord}
 use Rattle.coord.specs.declared.home.Home.{Home}
 use Rattle.coord.specs.Attempts.{setting_at}
@@ -33,3 +34,11 @@ pub record Stands (home : Home) (fixed : Bool) (counter' : ℕ) (homes' : List T
 
 abbrev pub Coordinates : Coord → List Msg → Type 0
 Coordinates c ms = Stands c.home c.fixed c.counter c.homes.items c.next (state_at c.open) ms
+
+-- a message to a participant
+abbrev pub is_call : Msg → Bool
+is_call (Ask who stamp key mode) = true
+is_call (Prepare who bound writes appends) = true
+is_call (Commit who number) = true
+is_call (Abort who) = true
+is_call m = false
