@@ -1,0 +1,19 @@
+-- What a node stands for.
+use Rattle.std.specs.Prelude.{◌≡◌, List}
+use Rattle.deneva_base.specs.History.{History}
+use Rattle.deneva_base.specs.Rows.{Rows}
+use Rattle.deneva_base.specs.Rules.{Rule}
+use Rattle.server_core.specs.Participant.{calls}
+use Rattle.server_core.specs.Setting.{loaded_at}
+use Rattle.server_core.specs.VotingFits.{AllFit}
+use Rattle.server_core.specs.declared.messages.Msg.{Msg}
+use Rattle.node_core.specs.declared.participant.Participant.{Participant}
+use Rattle.node_core.specs.Places.{role_at, setting_at, IsPlace}
+
+-- the messages fitted, each in its turn, and the control of the partition, which answers by the protocol's rule, stands
+-- for the calls that they make
+pub record Partakes {C : Type 0} (stands : C → Rows → History → Type 0) (rule : Rows → Rule) (a : Participant C) (ms : List Msg) : Type 0 where
+  pub place : IsPlace (role_at a.place)
+  pub rule_is : (setting_at a.place).rule ≡ rule
+  pub fit : AllFit (setting_at a.place) a.place.part ms
+  pub control : stands a.control (loaded_at (setting_at a.place) a.place.part) (calls (setting_at a.place) a.place.part ms)

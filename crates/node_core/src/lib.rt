@@ -1,0 +1,5 @@
+//! A node of a voting protocol: the coordinator of its home transactions, and the concurrency control of its partition.
+#![tactic(auto)]
+
+mod participant;
+mod place;
