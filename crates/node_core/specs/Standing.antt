@@ -7,6 +7,8 @@ use Rattle.server_core.specs.Participant.{calls}
 use Rattle.server_core.specs.Setting.{loaded_at}
 use Rattle.server_core.specs.VotingFits.{AllFit}
 use Rattle.server_core.specs.declared.messages.Msg.{Msg}
+use Rattle.coord.specs.Standing.{role_of, Coordinates}
+use Rattle.node_core.specs.declared.node.Node.{Node}
 use Rattle.node_core.specs.declared.participant.Participant.{Participant}
 use Rattle.node_core.specs.Places.{role_at, setting_at, IsPlace}
 
@@ -17,3 +19,9 @@ pub record Partakes {C : Type 0} (stands : C → Rows → History → Type 0) (r
   pub rule_is : (setting_at a.place).rule ≡ rule
   pub fit : AllFit (setting_at a.place) a.place.part ms
   pub control : stands a.control (loaded_at (setting_at a.place) a.place.part) (calls (setting_at a.place) a.place.part ms)
+
+-- coordinator and participant have one place, and stand for the messages
+pub record NodeStands {C : Type 0} (stands : C → Rows → History → Type 0) (rule : Rows → Rule) (n : Node C) (ms : List Msg) : Type 0 where
+  pub role : role_of n.coord ≡ role_at n.participant.place
+  pub coord : Coordinates n.coord ms
+  pub participant : Partakes stands rule n.participant ms

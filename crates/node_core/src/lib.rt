@@ -1,5 +1,9 @@
 //! A node of a voting protocol: the coordinator of its home transactions, and the concurrency control of its partition.
 #![tactic(auto)]
 
+mod loading;
+mod node;
 mod participant;
 mod place;
+
+pub use node::Node;

@@ -1,12 +1,13 @@
 //! The partition of a node: each message of a coordinator is one call of its control.
-ghost use Rattle.std.specs.Prelude.{◌≡◌, ◌++◌, ◌∷◌, ℕ, List, OnOk, OnErr};
+ghost use Rattle.std.specs.Prelude.{◌≡◌, ◌++◌, ◌∷◌, [], ℕ, List, IfOk, OnOk, OnErr};
 ghost use Rattle.server_core.specs.Participant.{participant};
 ghost use Rattle.server_core.specs.Roles.{FitsRole};
 ghost use Rattle.server_core.specs.declared.messages.Msg as messages;
 ghost use Rattle.server_core.specs.declared.messages.Msg.TheVariants.{Ask, Prepare, Commit, Abort};
-ghost use Rattle.node_core.specs.Places.{role_at, setting_at};
+ghost use Rattle.node_core.specs.Places.{role_at, setting_at, IsPlace};
 ghost use Rattle.node_core.specs.Standing.{Partakes};
 
+use crate::loading::store_of;
 use crate::place::Place;
 use control_core::Control;
 use deneva_base::{Attempt, Bound, Key, Mode, NoMemory, Number, RowList, Woken};
@@ -22,6 +23,22 @@ pub(crate) struct Participant<'w, C: Control> {
 }
 
 impl<'w, C: Control> Participant<'w, C> {
+    /// A partition with the rows that are loaded there.
+    pub fn begin(alloc: Global, place: Place<'w>) -> Result<Participant<'w, C>, NoMemory>
+        requires place { IsPlace (role_at place) }
+        requires rule { (setting_at place).rule ≡ C.rule }
+        ensures place { IfOk result (λ p. p.place ≡ place) }
+        ensures stands { IfOk result (λ p. Partakes C.stands C.rule p []) }
+    {
+        let store = store_of(alloc, place.work, place.config.parts, place.part)?;
+        let control = C::begin(store)?;
+        Ok(Participant {
+            alloc,
+            place,
+            control,
+        })
+    }
+
     /// Asks for an access. One that waits says nothing yet.
     pub fn ask(
         &mut self,
