@@ -1,3 +1,4 @@
 pub mod Homes
 pub mod Callers
 pub mod Calling
+pub mod Handling

@@ -3,7 +3,6 @@
 
 mod loading;
 mod node;
-mod participant;
 mod place;
 
 pub use node::Node;

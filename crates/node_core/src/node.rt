@@ -4,51 +4,83 @@ ghost use Rattle.server_core.proofs.Served.{mails_fit_any, runs_end_any, mails_l
 ghost use Rattle.node_core.specs.Places.{role_at};
 ghost use Rattle.node_core.specs.Standing.{NodeStands};
 
-use crate::participant::Participant;
+use crate::loading::store_of;
 use crate::place::Place;
 use control_core::Chosen;
 use coord::Coord;
-use deneva_base::{Config, NoMemory, Protocol, RowList};
+use deneva_base::{Config, NoMemory, Protocol, RowList, Woken};
 use server_core::{Handles, Msg, Outbox, Server};
 use std::alloc::Global;
 use txn_program::Workload;
 
-/// The coordinator of its home transactions, and its partition under a control that its protocol chooses.
+/// The coordinator of its home transactions, and the control of its partition, which its protocol chooses.
 #[derive(Drop)]
 pub struct Node<'w, C: Chosen> {
+    alloc: Global,
+    place: Place<'w>,
     coord: Coord<'w>,
-    participant: Participant<'w, C>,
+    control: C,
 }
 
 impl<'w, C: Chosen> Handles for Node<'w, C> {
-    ghost role = { λ n. role_at n.participant.place };
+    ghost role = { λ n. role_at n.place };
 
     ghost protocol = { C.KIND };
 
     ghost stands = { λ n ms. NodeStands C.stands C.rule n ms };
 
+    /// A participant's message is one call of the control, and the room for what is told comes before it.
     fn handle(&mut self, _from: u8, msg: &Msg, out: &mut Outbox) -> Result<(), NoMemory> {
+        let part = self.place.part;
         match msg {
             Msg::Ask {
                 who,
                 stamp,
                 key,
                 mode,
-            } => self.participant.ask(*who, *stamp, *key, *mode, out),
+            } => {
+                out.reserve(1)?;
+                let answer = self.control.ask(*who, *stamp, *key, *mode)?;
+                self.place.tell_answer(*who, *key, answer, out);
+                Ok(())
+            }
             Msg::Prepare {
                 who,
                 bound,
                 writes,
                 appends,
-            } => self.participant.prepare(*who, *bound, writes, appends, out),
-            Msg::Commit { who, number } => self.participant.commit(*who, *number, out),
-            Msg::Abort { who } => self.participant.abort(*who, out),
+            } => {
+                out.reserve(1)?;
+                let writes = writes.copy(self.alloc)?;
+                let appends = appends.copy(self.alloc)?;
+                let Ok(vote) = self.control.prepare(*who, *bound, writes, appends) else {
+                    return Err(NoMemory);
+                };
+                self.place.tell_vote(*who, vote, out);
+                Ok(())
+            }
+            Msg::Commit { who, number } => {
+                out.reserve(self.control.waiting() + 1)?;
+                let mut woken = Woken::new(self.alloc);
+                self.control.commit(*who, *number, &mut woken)?;
+                let done = Msg::Done { who: *who, part };
+                self.place.tell_end(*who, done, woken, out);
+                Ok(())
+            }
+            Msg::Abort { who } => {
+                out.reserve(self.control.waiting() + 1)?;
+                let mut woken = Woken::new(self.alloc);
+                self.control.abort(*who, &mut woken)?;
+                let undone = Msg::Undone { who: *who, part };
+                self.place.tell_end(*who, undone, woken, out);
+                Ok(())
+            }
             _ => self.coord.step(msg, out),
         }
     }
 
     fn rows(&self) -> Result<RowList, NoMemory> {
-        self.participant.control.rows()
+        self.control.rows()
     }
 
     ghost fits = { λ c w H flight is config valid run. mails_fit_any c w H flight config valid run };
@@ -76,8 +108,12 @@ impl<'w, C: Chosen> Server<'w> for Node<'w, C> {
         work: &'w Workload,
     ) -> Result<Self, NoMemory> {
         let coord = Coord::begin(alloc, config, part, C::FIXED, work)?;
-        let place = Place { config, part, work };
-        let participant = Participant::begin(alloc, place)?;
-        Ok(Node { coord, participant })
+        let control = C::begin(store_of(alloc, work, config.parts, part)?)?;
+        Ok(Node {
+            alloc,
+            place: Place { config, part, work },
+            coord,
+            control,
+        })
     }
 }

@@ -31,7 +31,7 @@ impl<'w> Place<'w> {
     }
 
     /// Tells the attempt's home, for which there is room.
-    pub fn tell(&self, who: Attempt, msg: Msg, out: &mut Outbox)
+    fn tell(&self, who: Attempt, msg: Msg, out: &mut Outbox)
         requires place { IsPlace (role_at self.now) }
         requires known { IsIn who.txn (all_ids self.now.work.now) }
         requires room { 1 ≤ out.old.spare }
@@ -89,7 +89,7 @@ impl<'w> Place<'w> {
     }
 
     /// Tells each woken access that it is granted, in their order. The rows are moved.
-    pub fn tell_woken(&self, woken: Woken, out: &mut Outbox)
+    fn tell_woken(&self, woken: Woken, out: &mut Outbox)
         requires place { IsPlace (role_at self.now) }
         requires known { (w : answers.Wake) → IsIn w woken → IsIn w.who.txn (all_ids self.now.work.now) }
         requires room { length woken ≤ out.old.spare }
@@ -112,5 +112,17 @@ impl<'w> Place<'w> {
             };
             self.tell(who, granted, out);
         }
+    }
+
+    /// Tells that an attempt has ended here, and then the wakes.
+    pub fn tell_end(&self, who: Attempt, ended: Msg, woken: Woken, out: &mut Outbox)
+        requires place { IsPlace (role_at self.now) }
+        requires known { IsIn who.txn (all_ids self.now.work.now) }
+        requires woken { (w : answers.Wake) → IsIn w woken → IsIn w.who.txn (all_ids self.now.work.now) }
+        requires room { length woken + 1 ≤ out.old.spare }
+        ensures { out.new.mails ≡ out.old.mails ++ mail_home (setting_at self.now) self.now.part who ended ∷ wake_mails (setting_at self.now) self.now.part woken }
+    {
+        self.tell(who, ended, out);
+        self.tell_woken(woken, out);
     }
 }
