@@ -15,13 +15,15 @@ use Rattle.deneva_base.specs.History.{Ask as Asked, Prepare as Prepared, Commit 
 use Rattle.deneva_base.specs.Rows.{Rows}
 use Rattle.deneva_base.specs.Rules.{Rule}
 use Rattle.server_core.specs.Coordinator.{coordinator}
+use Rattle.deneva_base.specs.Leaving.{rows_left}
+use Rattle.server_core.specs.NodeRows.{rows_under}
 use Rattle.server_core.specs.Participant.{call_of, calls, participant}
-use Rattle.server_core.specs.Roles.{Role, FitsRole, said_by}
+use Rattle.server_core.specs.Roles.{Role, FitsRole, said_by, rows_of_role}
 use Rattle.server_core.specs.Setting.{Setting, setting, rule_at, loaded_at}
 use Rattle.server_core.specs.declared.messages.Mail.{Mail}
 use Rattle.server_core.specs.declared.messages.Msg.{Msg}
 use Rattle.server_core.specs.declared.messages.Msg.TheVariants.{Start, Ask, Granted, Refused, Prepare, Yes, No, Commit, Abort, Done, Undone, Tick, Batch, Rows as RowsMsg, Finished}
-use Rattle.server_core.proofs.Bridges.{says_voting}
+use Rattle.server_core.proofs.Bridges.{says_voting, by_choice}
 use Rattle.coord.specs.declared.coord.Coord.{Coord}
 use Rattle.coord.specs.Standing.{role_of, Coordinates, is_call}
 use Rattle.coord.proofs.Passing.{passes}
@@ -29,6 +31,14 @@ use Rattle.node_core.specs.declared.node.Node.{Node}
 use Rattle.node_core.specs.Places.{role_at, setting_at}
 use Rattle.node_core.specs.Standing.{Partakes, NodeStands}
 use Rattle.node_core.proofs.Calling.{suits}
+
+-- a message of none of the four kinds is no call
+pub not_call : (m : Msg) → ((who : Attempt) (stamp : ℕ) (key : Key) (mode : Mode) → m ≡ Ask who stamp key mode → ⊥) → ((who : Attempt) (bound : Bound) (writes appends : List Keyed) → m ≡ Prepare who bound writes appends → ⊥) → ((who : Attempt) (number : Number) → m ≡ Commit who number → ⊥) → ((who : Attempt) → m ≡ Abort who → ⊥) → is_call m ≡ false
+not_call (Ask who stamp key mode) a b c d = absurd (a who stamp key mode refl)
+not_call (Prepare who bound writes appends) a b c d = absurd (b who bound writes appends refl)
+not_call (Commit who number) a b c d = absurd (c who number refl)
+not_call (Abort who) a b c d = absurd (d who refl)
+not_call m a b c d = refl
 
 module _ {C : Type 0} (stands : C → Rows → History → Type 0) (rule : Rows → Rule) (n : Node C) where
   abbrev s : Setting
@@ -58,9 +68,6 @@ module _ {C : Type 0} (stands : C → Rows → History → Type 0) (rule : Rows 
       calls = after;
     };
   }
-
-  same_rule : (ms : List Msg) → NodeStands stands rule n ms → (λ (loaded : Rows). rule loaded) ≡ s.rule
-  same_rule ms k = sym k.participant.rule_is
 
   pub ask_stands : (new : C) (from : ℕ) (ms : List Msg) (m : Msg) (who : Attempt) (stamp : ℕ) (key : Key) (mode : Mode) (answer : Answer) → m ≡ Ask who stamp key mode → ((loaded : Rows) (h : History) → stands n.control loaded h → MayAsk loaded h who stamp key → answer ≡ (rule loaded).ask h who stamp key mode) → ((loaded : Rows) (h : History) → stands n.control loaded h → MayAsk loaded h who stamp key → stands new loaded (Asked who stamp key mode answer ∷ h)) → NodeStands stands rule n ms → fits_at from m ms → NodeStands stands rule (with_control new) (m ∷ ms)
   ask_stands new from ms m who stamp key mode answer is answered after k fits =
@@ -132,3 +139,7 @@ module _ {C : Type 0} (stands : C → Rows → History → Type 0) (rule : Rows 
       let by_coord : after ≡ before ++ coordinator s p m ms = said (subst (λ (r : Role). FitsRole r from m ms) (sym k.role) fits) ∙ ap (λ (r : Role). before ++ coordinator (setting r.config r.work) r.part m ms) k.role in
       let says : said_by (role_at n.place) (m ∷ ms) ≡ coordinator s p m ms = says_voting n.place.config n.place.work.now k.participant.place.votes p (m ∷ ms) ∙ ap (λ l. coordinator s p m ms ++ l) (not_told ms m other) ∙ append-nil (coordinator s p m ms) in
       by_coord ∙ ap (λ l. before ++ l) (sym says)
+
+  -- the rows of its history
+  pub rows_are : (ms : List Msg) (key : Key) → NodeStands stands rule n ms → rows_left (loaded_at s p) (calls s p ms) key ≡ rows_of_role (role_at n.place) ms key
+  rows_are ms key k = by_choice (λ o. rows_left (loaded_at s p) (calls s p ms) key ≡ rows_under o s p ms key) n.place.config.protocol k.participant.place.votes (λ o. refl)
