@@ -1,6 +1,6 @@
 -- Whoever calls a partition or is woken there has asked there, so that its transaction is one of the workload; and no
 -- more are woken than wait.
-use Rattle.std.proofs.Common.{◌≡◌, ◌≢◌, ◌<◌, ◌≤◌, ◌^◌, ◌+◌, ℕ, suc, List, [], ◌∷◌, ◌++◌, length, filter, Bool, true, false, cond, not, refl, sym, ap, ◌∙◌, subst, inl, inr, ⊎_elim, arith, true≢false}
+use Rattle.std.proofs.Common.{◌≡◌, ◌≢◌, ◌≤◌, ◌+◌, ℕ, suc, List, [], ◌∷◌, ◌++◌, length, filter, Bool, true, false, cond, not, refl, sym, ap, ◌∙◌, subst, inl, inr, ⊎_elim, arith, true≢false}
 use Rattle.deneva_base.specs.declared.numbers.Attempt.{Attempt}
 use Rattle.deneva_base.specs.declared.causes.Bound.{Bound}
 use Rattle.deneva_base.specs.declared.answers.Wake.{Wake}
@@ -14,10 +14,10 @@ use Rattle.deneva_base.specs.Lists.{IsIn}
 use Rattle.deneva_base.specs.Conditions.{MayPrepare, MayCommit, MayAbort}
 use Rattle.deneva_base.specs.History.{Ask as Asked', Prepare as Prepared, Commit as Committed, Abort as Aborted, History, Asked, Yea, asks, waits, left_waiting, yea, yeas, is_woken, wakes_this}
 use Rattle.deneva_base.specs.Wakes.{Once, WakesWaiters}
-use Rattle.deneva_base.proofs.Words.{in_cases, and_parts, attempt_decides, key_decides}
+use Rattle.deneva_base.proofs.Words.{and_parts, attempt_decides, key_decides}
 use Rattle.deneva_base.proofs.Traced.{wakes_this_true}
 use Rattle.server_core.specs.declared.messages.Msg.{Msg}
-use Rattle.server_core.specs.declared.messages.Msg.TheVariants.{Ask, Prepare, Commit, Abort}
+use Rattle.server_core.specs.declared.messages.Msg.TheVariants.{Ask, Prepare}
 use Rattle.server_core.specs.Participant.{calls}
 use Rattle.server_core.specs.Proper.{Valid}
 use Rattle.server_core.specs.Setting.{Setting, rule_at}

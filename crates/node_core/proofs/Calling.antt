@@ -1,5 +1,5 @@
 -- What the calls of a control ask for, from what the node stands for and a message that fits.
-use Rattle.std.proofs.Common.{◌≡◌, ◌<◌, ◌≤◌, ◌^◌, ◌+◌, ℕ, List, [], ◌∷◌, ◌++◌, length, refl, sym, ap, ◌∙◌, subst, arith}
+use Rattle.std.proofs.Common.{◌≡◌, ◌<◌, ◌≤◌, ◌^◌, ◌+◌, ℕ, List, [], ◌∷◌, ◌++◌, length, sym, ap, ◌∙◌, subst, arith}
 use Rattle.deneva_base.specs.declared.numbers.Attempt.{Attempt}
 use Rattle.deneva_base.specs.declared.causes.Bound.{Bound}
 use Rattle.deneva_base.specs.declared.answers.Wake.{Wake}
@@ -13,7 +13,7 @@ use Rattle.deneva_base.specs.Wakes.{WakesWaiters}
 use Rattle.deneva_base.specs.Conditions.{MayCommit, MayAbort}
 use Rattle.txn_program.specs.Serial.{all_ids}
 use Rattle.server_core.specs.declared.messages.Msg.{Msg}
-use Rattle.server_core.specs.declared.messages.Msg.TheVariants.{Ask, Prepare, Commit, Abort}
+use Rattle.server_core.specs.declared.messages.Msg.TheVariants.{Prepare, Commit, Abort}
 use Rattle.server_core.specs.Participant.{calls}
 use Rattle.server_core.specs.Proper.{Valid}
 use Rattle.server_core.specs.Roles.{FitsRole}
@@ -23,7 +23,7 @@ use Rattle.server_core.proofs.Bridges.{voting_fit}
 use Rattle.server_core.proofs.Called.{wakers}
 use Rattle.server_core.proofs.ValidSettings.{valid}
 use Rattle.node_core.specs.declared.place.Place.{Place}
-use Rattle.node_core.specs.Places.{IsPlace, role_at, setting_at}
+use Rattle.node_core.specs.Places.{role_at, setting_at}
 use Rattle.node_core.specs.Standing.{Partakes}
 use Rattle.node_core.proofs.Callers as callers
 

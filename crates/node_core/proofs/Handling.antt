@@ -1,6 +1,5 @@
 -- A node stands on after each message.
-use Rattle.std.proofs.Common.{◌≡◌, ◌<◌, ◌≤◌, ◌^◌, ◌+◌, ℕ, List, [], ◌∷◌, ◌++◌, length, Bool, true, false, refl, sym, ap, ◌∙◌, subst, true≢false}
-use Rattle.std.specs.Prelude.{OnOk, OnErr}
+use Rattle.std.proofs.Common.{◌≡◌, ℕ, List, [], ◌∷◌, ◌++◌, true, false, refl, sym, ap, ◌∙◌, subst, true≢false}
 use Rattle.std.proofs.lemmas.List.{append-nil}
 use Rattle.deneva_base.specs.declared.numbers.Attempt.{Attempt}
 use Rattle.deneva_base.specs.declared.numbers.Number.{Number}
@@ -22,14 +21,14 @@ use Rattle.server_core.specs.Roles.{Role, FitsRole, said_by, rows_of_role}
 use Rattle.server_core.specs.Setting.{Setting, setting, rule_at, loaded_at}
 use Rattle.server_core.specs.declared.messages.Mail.{Mail}
 use Rattle.server_core.specs.declared.messages.Msg.{Msg}
-use Rattle.server_core.specs.declared.messages.Msg.TheVariants.{Start, Ask, Granted, Refused, Prepare, Yes, No, Commit, Abort, Done, Undone, Tick, Batch, Rows as RowsMsg, Finished}
+use Rattle.server_core.specs.declared.messages.Msg.TheVariants.{Ask, Prepare, Commit, Abort}
 use Rattle.server_core.proofs.Bridges.{says_voting, by_choice}
 use Rattle.coord.specs.declared.coord.Coord.{Coord}
 use Rattle.coord.specs.Standing.{role_of, Coordinates, is_call}
 use Rattle.coord.proofs.Passing.{passes}
 use Rattle.node_core.specs.declared.node.Node.{Node}
 use Rattle.node_core.specs.Places.{role_at, setting_at}
-use Rattle.node_core.specs.Standing.{Partakes, NodeStands}
+use Rattle.node_core.specs.Standing.{NodeStands}
 use Rattle.node_core.proofs.Calling.{suits}
 
 -- a message of none of the four kinds is no call

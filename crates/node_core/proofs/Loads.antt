@@ -1,8 +1,7 @@
 -- A store of the rows of one partition.
-use Rattle.std.proofs.Common.{◌≡◌, ◌≢◌, ◌⊎◌, ℕ, zero, suc, ◌≤◌, ◌<◌, ◌+◌, ◌==◌, List, [], ◌∷◌, ◌++◌, map, length, filter, get_or, drop, drop-cons, Bool, true, false, cond, eqb, refl, sym, ap, ◌∙◌, subst, inl, inr, ⊎_elim, arith, Option, Some, None, option_map, append_assoc}
+use Rattle.std.proofs.Common.{◌≡◌, ◌≢◌, ℕ, zero, suc, ◌≤◌, ◌<◌, List, [], ◌∷◌, map, length, get_or, Bool, true, false, cond, eqb, refl, sym, ap, ◌∙◌, subst, inl, inr, ⊎_elim, arith, Option, Some, None, option_map}
 use Rattle.std.specs.List.{AllByRecursion, IsDistinct}
 use Rattle.std.proofs.lemmas.Bool.{eqb-true}
-use Rattle.std.proofs.lemmas.List.{append-nil}
 use Rattle.deneva_base.specs.declared.keys.Key.{Key}
 use Rattle.deneva_base.specs.declared.rows.Keyed.{Keyed}
 use Rattle.deneva_base.specs.Keys.{key_eq, loaded_version}
@@ -11,7 +10,7 @@ use Rattle.deneva_base.specs.Partitions.{partition_of}
 use Rattle.deneva_base.specs.Rows.{Row, row_of}
 use Rattle.deneva_base.proofs.Words.{and_parts, filter_in, key_tells}
 use Rattle.txn_program.specs.Apart.{DistinctBy}
-use Rattle.txn_program.specs.Valid.{IsValid, is_valid_row, is_ycsb_key}
+use Rattle.txn_program.specs.Valid.{IsValid, is_valid_row}
 use Rattle.txn_program.specs.declared.programs.Workload.{Workload}
 use Rattle.txn_program.proofs.Members.{all_at}
 use Rattle.txn_program.proofs.ValidPrograms.{valid_load}

@@ -4,5 +4,6 @@
 mod loading;
 mod node;
 mod place;
+mod threads;
 
 pub use node::Node;

@@ -19,12 +19,12 @@ pub returns-clause-loaded : goal.returns-clause-loaded
 returns-clause-loaded c =
     IfOk-weaker c.begin.result _ _
     (λ s holds. loaded_store c.args.work.now c.requires.valid c.args.parts c.args.part c.in_ok-rows.rows
-        (c.in_ok-rows.ensures ∙ ap (λ (l : List Keyed). rows_at c.args.parts c.args.part l) c.as_slice.ensures) s holds)
+    (c.in_ok-rows.ensures ∙ ap (λ (l : List Keyed). rows_at c.args.parts c.args.part l) c.as_slice.ensures) s holds)
     c.begin.ensures.loaded
 
 pub returns-clause-rows : goal.returns-clause-rows
 returns-clause-rows c =
     IfOk-weaker c.begin.result _ _
     (λ s holds. rows_loaded c.args.work.now c.requires.valid c.args.parts c.args.part c.in_ok-rows.rows
-        (c.in_ok-rows.ensures ∙ ap (λ (l : List Keyed). rows_at c.args.parts c.args.part l) c.as_slice.ensures) s holds)
+    (c.in_ok-rows.ensures ∙ ap (λ (l : List Keyed). rows_at c.args.parts c.args.part l) c.as_slice.ensures) s holds)
     c.begin.ensures.loaded

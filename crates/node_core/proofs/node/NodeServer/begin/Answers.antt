@@ -1,4 +1,4 @@
-use Rattle.std.proofs.Common.{◌≡◌, [], ap, sym, ◌∙◌, subst}
+use Rattle.std.proofs.Common.{[], ap, sym, ◌∙◌, subst}
 use Rattle.deneva_base.specs.Protocols.{chosen}
 use Rattle.deneva_base.specs.Rows.{Rows}
 use Rattle.server_core.specs.Configs.{IsVoting}

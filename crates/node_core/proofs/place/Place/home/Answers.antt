@@ -1,9 +1,8 @@
-use Rattle.std.proofs.Common.{◌≡◌, true, arith, ap, subst, sym, ◌∙◌}
+use Rattle.std.proofs.Common.{◌≡◌, true, arith, subst, ◌∙◌}
 use Rattle.std.proofs.lemmas.Option.{get_or_from_slice_get}
 use Rattle.txn_program.proofs.Ids.{id_between, id_for_each, valid_id}
 use Rattle.txn_program.specs.Valid.{is_valid_program}
 use Rattle.txn_program.specs.declared.programs.Program.{Program}
-use Rattle.txn_program.specs.declared.programs.Program.TheVariants.{Ycsb}
 use Rattle.node_core.proofs.Homes.{home_is}
 use Rattle.node_core.proofs.place.Place.home.Goals as goal
 

@@ -1,7 +1,6 @@
 use Rattle.std.proofs.Common.{◌≡◌, ◌++◌, ◌∷◌, [], ◌≤◌, List, length, arith, rules, ap, subst, sym, ◌∙◌, inl, inr, append_assoc}
 use Rattle.deneva_base.specs.Lists.{IsIn}
 use Rattle.deneva_base.specs.declared.answers.Wake.{Wake}
-use Rattle.txn_program.specs.Serial.{all_ids}
 use Rattle.server_core.specs.Participant.{mail_home, wake_mails}
 use Rattle.server_core.specs.declared.messages.Msg.TheVariants.{Granted}
 use Rattle.node_core.specs.Places.{setting_at}
