@@ -103,14 +103,14 @@ impl<'w> Place<'w> {
                 version,
                 bound,
             } = wake;
-            let granted = Msg::Granted {
+            let grant = Msg::Granted {
                 who,
                 key,
                 row,
                 version,
                 bound,
             };
-            self.tell(who, granted, out);
+            self.tell(who, grant, out);
         }
     }
 
