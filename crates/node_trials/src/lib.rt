@@ -1,0 +1,8 @@
+//! Trials of a node: messages that fit, handed to it one after another, and what it says on them.
+#![tactic(auto)]
+
+mod asked;
+mod steps;
+#[cfg(test)]
+mod tests;
+mod works;
