@@ -1,5 +1,5 @@
 -- Under a voting protocol, what is said of a configuration and a workload is what is said of their setting.
-use Rattle.std.proofs.Common.{◌≡◌, ℕ, List, Option, Some, None, refl, sym, subst}
+use Rattle.std.proofs.Common.{◌≡◌, ◌⊎◌, ℕ, List, Option, Some, None, refl, sym, subst, inl, inr}
 use Rattle.deneva_base.specs.Lists.{IsIn}
 use Rattle.deneva_base.specs.Protocols.{Chosen, chosen}
 use Rattle.deneva_base.specs.declared.config.Config.{Config}
@@ -36,7 +36,16 @@ choice Mvcc n = (_, refl)
 choice Maat n = (_, refl)
 choice Calvin n = absurd (n refl)
 
--- and a protocol that chooses one votes
+-- each protocol votes or is Calvin
+pub votes_or_not : (p : Protocol) → IsVoting p ⊎ (p ≡ Calvin)
+votes_or_not NoWait = inl (λ e. cc (e))
+votes_or_not WaitDie = inl (λ e. cc (e))
+votes_or_not Timestamp = inl (λ e. cc (e))
+votes_or_not Mvcc = inl (λ e. cc (e))
+votes_or_not Maat = inl (λ e. cc (e))
+votes_or_not Calvin = inr refl
+
+-- a protocol that chooses one votes
 pub votes_if_chosen : (p : Protocol) (o : Chosen) → chosen p ≡ Some o → IsVoting p
 votes_if_chosen p o e is = absurd (none (chosen p) o e (subst (λ q. chosen q ≡ None) (sym is) refl))
   where

@@ -71,3 +71,7 @@ pub mod Flights
 pub mod StoredRows
 pub mod OrderedSteps
 pub mod ActiveLists
+pub mod Addresses
+pub mod OwnRows
+pub mod Served
+pub mod OpeningMails

@@ -40,7 +40,7 @@ irr a b x y = omega (arith, x, y)
 trans : (a b c : Number) → NumberLt a b → NumberLt b c → NumberLt a c
 trans a b c x y = grind (arith, x, y)
 
-left_found : (ys : List Yea) (who : Attempt) (w : Keyed) → IsIn w (left_in ys who) → (y : Yea) × (y.who ≡ who) × IsIn y ys × IsIn w (y.writes ++ y.appends)
+pub left_found : (ys : List Yea) (who : Attempt) (w : Keyed) → IsIn w (left_in ys who) → (y : Yea) × (y.who ≡ who) × IsIn y ys × IsIn w (y.writes ++ y.appends)
 left_found [] who w i = absurd i
 left_found (y ∷ ys) who w i =
     ⊎_elim

@@ -1,5 +1,6 @@
 //! What holds of every run, whatever the protocol, the configuration, the valid workload and the order of deliveries.
-ghost use Rattle.std.specs.Prelude.{◌≡◌, ◌≤◌, List, length};
+ghost use Rattle.std.specs.Prelude.{◌≡◌, ◌≢◌, ◌≤◌, ◌<◌, ℕ, List, length, None};
+ghost use Rattle.deneva_base.specs.Lists.{IsIn};
 ghost use Rattle.deneva_base.specs.Partitions.{partition_of};
 ghost use Rattle.deneva_base.specs.Rows.{row_of};
 ghost use Rattle.deneva_base.specs.declared.config.Config.{Config};
@@ -20,14 +21,17 @@ ghost use Rattle.server_core.specs.declared.messages.Entry.{Entry};
 ghost use Rattle.server_core.specs.declared.messages.Mail.{Mail};
 ghost use Rattle.server_core.specs.declared.schedules.Schedule.{Schedule};
 
-/// In every run each mail in flight fits its node, the run is no longer than a bound that the configuration and the
-/// workload give, its entries tell what is in flight, and each abort line of its outcome names what the rule found. What a
-/// schedule picks is a quiet run. In every quiet run each transaction is decided at all its participants or at none; the
-/// decided transactions, executed one at a time in the order of their numbers, give each its reads and the last rows; and
-/// those are the nodes' rows.
+/// In every run each mail in flight fits its node, and is from a node that there is and to one; the run is no longer than
+/// a bound that the configuration and the workload give, and its entries tell what is in flight; no node has a row of
+/// another partition's key; and each abort line of the outcome names what the rule found. What a schedule picks is a quiet
+/// run. In every quiet run each transaction is decided at all its participants or at none; the decided transactions,
+/// executed one at a time in the order of their numbers, give each its reads and the last rows; and those are the nodes'
+/// rows.
 pub fn runs_are_right()
     ensures fits { (c : Config) (w : Workload) (H : List Entry) (flight : List Mail) → IsConfig c → IsValid w → IsRun c w H flight → AllFitting c w H flight }
     ensures short { (c : Config) (w : Workload) (H : List Entry) (flight : List Mail) → IsConfig c → IsValid w → IsRun c w H flight → length H ≤ most_entries c w }
+    ensures lands { (c : Config) (w : Workload) (H : List Entry) (flight : List Mail) (x : Mail) → IsConfig c → IsValid w → IsRun c w H flight → IsIn x flight → (x.from < c.parts) × (x.to < c.parts) }
+    ensures kept_apart { (c : Config) (w : Workload) (H : List Entry) (flight : List Mail) (p : ℕ) (key : Key) → IsConfig c → IsValid w → IsRun c w H flight → partition_of key c.parts ≢ p → rows_of_node c w p (heard p H) key ≡ None }
     ensures flight { (c : Config) (w : Workload) (H : List Entry) (flight other : List Mail) → IsRun c w H flight → IsRun c w H other → flight ≡ other }
     ensures named { (c : Config) (w : Workload) (H : List Entry) (flight : List Mail) → IsConfig c → IsValid w → IsRun c w H flight → AllNamed c w H }
     ensures picked { (c : Config) (w : Workload) (schedule : Schedule) → IsConfig c → IsValid w → IsQuiet c w (picked c w schedule) }

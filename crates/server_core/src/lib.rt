@@ -6,6 +6,7 @@ mod any_protocol;
 mod headline;
 mod laws;
 mod messages;
+mod openings;
 mod ordered;
 mod outbox;
 mod outcomes;
@@ -25,6 +26,7 @@ pub use laws::{
     quiet_runs_are_serial, runs_are_bounded, runs_keep_account, stamps_tell,
 };
 pub use messages::{Entry, Mail, Msg};
+pub use openings::opening;
 pub use ordered::{
     order_is_global, ordered_deliveries_are_runs, ordered_mails_fit, ordered_quiet_runs_are_serial,
     ordered_runs_are_right, ordered_runs_are_short, ready_is_the_rule, rows_are_serial,

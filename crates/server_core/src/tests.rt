@@ -2,12 +2,15 @@
 
 use super::*;
 use deneva_base::{
-    Attempt, Bound, ByteList, Cause, Cell, Copied, IdList, Key, Keyed, Mode, Number, Protocol, Row,
-    RowList, TxnId,
+    Attempt, Bound, ByteList, Cause, Cell, Config, Copied, IdList, Key, Keyed, Mode, Number,
+    Protocol, Row, RowList, TxnId,
 };
 use std::alloc::Global;
 use std::test::Fail;
-use txn_program::Verdict;
+use txn_program::{
+    Load, Program, ProgramList, StepList, Verdict, WorkKind, Workload, YcsbAct, YcsbStep, valid,
+    ycsb_key_of,
+};
 
 const WHO: Attempt = Attempt {
     txn: TxnId(3),
@@ -154,5 +157,79 @@ fn lines_of_an_outcome_are_copied(rt: HostRuntime) -> Result<(), Fail> {
     };
     assert_eq!(rt; line.copied(rt.alloc())?, line);
     assert_ne!(rt; RunKind::Under(Protocol::Maat), RunKind::Serial);
+    Ok(())
+}
+
+/// A row for each key, and a transaction for each that reads it.
+fn work_over(alloc: Global, keys: &[u32]) -> Result<Workload, Fail> {
+    let mut rows = RowList::new(alloc);
+    let mut programs = ProgramList::new(alloc);
+    for key in keys {
+        let mut row = Row::new(alloc);
+        row.push(Cell::Text(ByteList::from_bytes(alloc, b"a")?))?;
+        rows.push(Keyed {
+            key: ycsb_key_of(*key),
+            row,
+        })?;
+        let mut steps = StepList::new(alloc);
+        steps.push(YcsbStep {
+            key: *key,
+            act: YcsbAct::Read,
+        })?;
+        programs.push(Program::Ycsb(steps))?;
+    }
+    let load = Load {
+        kind: WorkKind::Ycsb,
+        fields: 1,
+        rows,
+    };
+    Ok(Workload { load, programs })
+}
+
+#[test]
+fn nodes_begin_as_many_as_they_may_have_open(rt: HostRuntime) -> Result<(), Fail> {
+    let work = work_over(rt.alloc(), &[1, 2, 3])?;
+    assert!(rt; valid(&work));
+    let config = Config {
+        protocol: Protocol::NoWait,
+        parts: 2,
+        attempts: 1,
+        limit: 1,
+    };
+    let mails = opening(rt.alloc(), config, &work)?;
+    let start = |node, id| Mail {
+        from: node,
+        to: node,
+        msg: Msg::Start {
+            who: Attempt {
+                txn: TxnId(id),
+                turn: 1,
+            },
+        },
+    };
+    assert_eq!(rt; mails.as_slice(), [start(0, 2), start(1, 1)].as_slice());
+    Ok(())
+}
+
+#[test]
+fn nodes_begin_their_first_epoch(rt: HostRuntime) -> Result<(), Fail> {
+    let config = Config {
+        protocol: Protocol::Calvin,
+        parts: 2,
+        attempts: 1,
+        limit: 1,
+    };
+    let work = work_over(rt.alloc(), &[1])?;
+    assert!(rt; valid(&work));
+    let mails = opening(rt.alloc(), config, &work)?;
+    let tick = |node| Mail {
+        from: node,
+        to: node,
+        msg: Msg::Tick { epoch: 0 },
+    };
+    assert_eq!(rt; mails.as_slice(), [tick(0), tick(1)].as_slice());
+    let none = work_over(rt.alloc(), &[])?;
+    assert!(rt; valid(&none));
+    assert!(rt; opening(rt.alloc(), config, &none)?.is_empty());
     Ok(())
 }

@@ -1,42 +1,26 @@
--- Each protocol votes or is Calvin.
-use Rattle.std.proofs.Common.{◌≡◌, ◌⊎◌, refl, ap, ◌∙◌, inl, inr, ⊎_elim}
+-- What is said of any protocol holds of those that vote and of Calvin.
+use Rattle.std.proofs.Common.{ap, ◌∙◌, ⊎_elim}
 use Rattle.deneva_base.specs.Partitions.{partition_of}
-use Rattle.deneva_base.specs.declared.config.Protocol.{Protocol}
-use Rattle.deneva_base.specs.declared.config.Protocol.TheVariants.{NoWait, WaitDie, Timestamp, Mvcc, Maat, Calvin}
-use Rattle.server_core.specs.Configs.{IsVoting}
 use Rattle.server_core.specs.NodeRows.{rows_under}
 use Rattle.server_core.specs.Runs.{heard}
 use Rattle.server_core.specs.Says.{says, opening_mails}
 use Rattle.server_core.specs.Setting.{setting}
-use Rattle.server_core.proofs.Bridges.{choice}
+use Rattle.server_core.proofs.Bridges.{choice, votes_or_not}
 use Rattle.server_core.proofs.ByOrder as ordered
 use Rattle.server_core.proofs.CalvinBridges.{named_of_ordered}
 use Rattle.server_core.proofs.Flights.{one_flight}
 use Rattle.server_core.proofs.Limiteds.{limits}
+use Rattle.server_core.proofs.Served.{mails_fit_any, runs_end_any, mails_between_any, rows_kept_apart_any}
 use Rattle.server_core.proofs.ValidSettings.{naming, waits, valid}
 use Rattle.server_core.proofs.Voted as voted
 use Rattle.server_core.proofs.any_protocol.runs_are_right.Goals as goal
 
-votes_or_not : (p : Protocol) → IsVoting p ⊎ (p ≡ Calvin)
-votes_or_not NoWait = inl (λ e. cc (e))
-votes_or_not WaitDie = inl (λ e. cc (e))
-votes_or_not Timestamp = inl (λ e. cc (e))
-votes_or_not Mvcc = inl (λ e. cc (e))
-votes_or_not Maat = inl (λ e. cc (e))
-votes_or_not Calvin = inr refl
-
 pub returns : goal.returns
 returns g = record {
-  fits = λ c w H flight k d run.
-      ⊎_elim
-      (λ v. let o = choice c.protocol v in voted.all_fitting c w o.0 o.1 (valid c w k d v) (limits c w k d v) H flight run)
-      (λ is. ordered.all_fitting c w is k d H flight run)
-      (votes_or_not c.protocol);
-  short = λ c w H flight k d run.
-      ⊎_elim
-      (λ v. let o = choice c.protocol v in voted.short c w o.0 o.1 (valid c w k d v) (limits c w k d v) H flight run)
-      (λ is. ordered.short c w is k d H flight run)
-      (votes_or_not c.protocol);
+  fits = mails_fit_any;
+  short = runs_end_any;
+  lands = mails_between_any;
+  kept_apart = rows_kept_apart_any;
   flight = λ c w H flight other r q. one_flight (says c w) (opening_mails c w) H flight other r q;
   named = λ c w H flight k d run.
       ⊎_elim
