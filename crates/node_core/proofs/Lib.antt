@@ -1,0 +1,5 @@
+pub mod Homes
+pub mod Loads
+pub mod Callers
+pub mod Calling
+pub mod Handling

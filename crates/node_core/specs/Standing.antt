@@ -1,0 +1,27 @@
+-- What a node stands for.
+use Rattle.std.specs.Prelude.{◌≡◌, List}
+use Rattle.deneva_base.specs.History.{History}
+use Rattle.deneva_base.specs.Rows.{Rows}
+use Rattle.deneva_base.specs.Rules.{Rule}
+use Rattle.server_core.specs.Participant.{calls}
+use Rattle.server_core.specs.Setting.{loaded_at}
+use Rattle.server_core.specs.VotingFits.{AllFit}
+use Rattle.server_core.specs.declared.messages.Msg.{Msg}
+use Rattle.coord.specs.Standing.{role_of, Coordinates}
+use Rattle.node_core.specs.declared.node.Node.{Node}
+use Rattle.node_core.specs.declared.place.Place.{Place}
+use Rattle.node_core.specs.Places.{role_at, setting_at, IsPlace}
+
+-- the messages fitted, each in its turn, and the control of the partition, which answers by the protocol's rule, stands
+-- for the calls that they make
+pub record Partakes {C : Type 0} (stands : C → Rows → History → Type 0) (rule : Rows → Rule) (a : Place) (control : C) (ms : List Msg) : Type 0 where
+  pub place : IsPlace (role_at a)
+  pub rule_is : (setting_at a).rule ≡ rule
+  pub fit : AllFit (setting_at a) a.part ms
+  pub calls : stands control (loaded_at (setting_at a) a.part) (calls (setting_at a) a.part ms)
+
+-- so do coordinator and participant of a node
+pub record NodeStands {C : Type 0} (stands : C → Rows → History → Type 0) (rule : Rows → Rule) (n : Node C) (ms : List Msg) : Type 0 where
+  pub role : role_of n.coord ≡ role_at n.place
+  pub coord : Coordinates n.coord ms
+  pub participant : Partakes stands rule n.place n.control ms

@@ -1,0 +1,119 @@
+//! A node of a voting protocol.
+ghost use Rattle.std.specs.Prelude.{◌≡◌};
+ghost use Rattle.server_core.proofs.Served.{mails_fit_any, runs_end_any, mails_land_any, rows_kept_apart_any};
+ghost use Rattle.node_core.specs.Places.{role_at};
+ghost use Rattle.node_core.specs.Standing.{NodeStands};
+
+use crate::loading::store_of;
+use crate::place::Place;
+use control_core::Chosen;
+use coord::Coord;
+use deneva_base::{Config, NoMemory, Protocol, RowList, Woken};
+use server_core::{Handles, Msg, Outbox, Server};
+use std::alloc::Global;
+use txn_program::Workload;
+
+/// The coordinator of its home transactions, and the control of its partition, which its protocol chooses.
+#[derive(Drop)]
+pub struct Node<'w, C: Chosen> {
+    alloc: Global,
+    place: Place<'w>,
+    coord: Coord<'w>,
+    control: C,
+}
+
+impl<'w, C: Chosen> Handles for Node<'w, C> {
+    ghost role = { λ n. role_at n.place };
+
+    ghost protocol = { C.KIND };
+
+    ghost stands = { λ n ms. NodeStands C.stands C.rule n ms };
+
+    /// A participant's message is one call of the control, and the room for what is told comes before it.
+    fn handle(&mut self, _from: u8, msg: &Msg, out: &mut Outbox) -> Result<(), NoMemory> {
+        let part = self.place.part;
+        match msg {
+            Msg::Ask {
+                who,
+                stamp,
+                key,
+                mode,
+            } => {
+                out.reserve(1)?;
+                let answer = self.control.ask(*who, *stamp, *key, *mode)?;
+                self.place.tell_answer(*who, *key, answer, out);
+                Ok(())
+            }
+            Msg::Prepare {
+                who,
+                bound,
+                writes,
+                appends,
+            } => {
+                out.reserve(1)?;
+                let writes = writes.copy(self.alloc)?;
+                let appends = appends.copy(self.alloc)?;
+                let Ok(vote) = self.control.prepare(*who, *bound, writes, appends) else {
+                    return Err(NoMemory);
+                };
+                self.place.tell_vote(*who, vote, out);
+                Ok(())
+            }
+            Msg::Commit { who, number } => {
+                out.reserve(self.control.waiting() + 1)?;
+                let mut woken = Woken::new(self.alloc);
+                self.control.commit(*who, *number, &mut woken)?;
+                let done = Msg::Done { who: *who, part };
+                self.place.tell_end(*who, done, woken, out);
+                Ok(())
+            }
+            Msg::Abort { who } => {
+                out.reserve(self.control.waiting() + 1)?;
+                let mut woken = Woken::new(self.alloc);
+                self.control.abort(*who, &mut woken)?;
+                let undone = Msg::Undone { who: *who, part };
+                self.place.tell_end(*who, undone, woken, out);
+                Ok(())
+            }
+            _ => self.coord.step(msg, out),
+        }
+    }
+
+    fn rows(&self) -> Result<RowList, NoMemory> {
+        self.control.rows()
+    }
+
+    ghost fits = { λ c w H flight is config valid run. mails_fit_any c w H flight config valid run };
+
+    ghost ends = { λ c w H flight is config valid run. runs_end_any c w H flight config valid run };
+
+    ghost lands = { λ c w H flight x is config valid run i. mails_land_any c w H flight x config valid run i };
+
+    ghost keeps_apart = { λ c w H flight p key is config valid run other. rows_kept_apart_any c w H flight p key config valid run other };
+}
+
+impl<'w, C: Chosen> Server<'w> for Node<'w, C> {
+    const KIND: Protocol = C::KIND;
+
+    fn protocol() -> Protocol
+        ensures { result ≡ C.KIND }
+    {
+        C::KIND
+    }
+
+    fn begin(
+        alloc: Global,
+        config: Config,
+        part: u8,
+        work: &'w Workload,
+    ) -> Result<Self, NoMemory> {
+        let coord = Coord::begin(alloc, config, part, C::FIXED, work)?;
+        let control = C::begin(store_of(alloc, work, config.parts, part)?)?;
+        Ok(Node {
+            alloc,
+            place: Place { config, part, work },
+            coord,
+            control,
+        })
+    }
+}
