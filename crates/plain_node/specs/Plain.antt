@@ -6,7 +6,7 @@ use Rattle.server_core.specs.declared.messages.Msg.{Msg}
 use Rattle.server_core.specs.Setting.{Setting, setting}
 use Rattle.plain_node.specs.declared.replies.Reply.{Reply}
 use Rattle.plain_node.specs.declared.replies.Ballot.{Ballot}
-use Rattle.plain_node.specs.declared.place.Place.{Place}
+use Rattle.plain_node.specs.declared.seat.Seat.{Seat}
 
 abbrev pub reply_of : Reply → replies.Reply
 reply_of r = record { row = r.row; bound = r.bound; key = r.key }
@@ -14,7 +14,7 @@ reply_of r = record { row = r.row; bound = r.bound; key = r.key }
 abbrev pub ballot_of : Ballot → replies.Ballot
 ballot_of b = record { part = b.part; vote = b.vote }
 
-abbrev pub setting_at : Place → Setting
+abbrev pub setting_at : Seat → Setting
 setting_at p = setting p.config p.work.now
 
 -- the numbers of these messages are small

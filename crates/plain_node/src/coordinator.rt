@@ -8,10 +8,10 @@ ghost use Rattle.server_core.specs.Stamps as stamps;
 ghost use Rattle.server_core.specs.Small.{SmallCause};
 ghost use Rattle.plain_node.specs.Plain.{AllSmall, reply_of, ballot_of, setting_at};
 
-use crate::place::{Place, partition};
 use crate::replies::{
     Reply, all_closed, all_voted, closes_for, grants_for, refused_for, votes_for,
 };
+use crate::seat::{Seat, partition};
 use crate::votes::decision;
 use deneva_base::{Access, Attempt, Bound, Cause, Copied, Key, Keyed, NoMemory, RowList, TxnId};
 use server_core::{Mail, Msg};
@@ -177,7 +177,7 @@ fn stamp(count: u64, parts: u8, part: u8) -> u64
     count * u64::from(parts) + u64::from(part) + 1
 }
 
-impl Place<'_> {
+impl Seat<'_> {
     fn counter(&self, messages: &[Msg]) -> u64
         requires parts { 1 ≤ self.now.config.parts }
         requires small { AllSmall messages.now }

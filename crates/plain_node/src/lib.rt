@@ -3,6 +3,9 @@
 #![tactic(auto)]
 
 mod coordinator;
-mod place;
+mod node;
 mod replies;
+mod seat;
 mod votes;
+
+pub use node::PlainNode;

@@ -1,4 +1,4 @@
-use Rattle.std.proofs.Common.{length, [], MatchOption, ◌==◌, ◌≡◌, ◌≤◌, ◌<◌, ◌+◌, ◌^◌, IfOk, IfSome, true, map, filter, eqb, ℕ, ◌-◌, ◌*◌}
+use Rattle.std.proofs.Common.{[], MatchOption, ◌==◌, ◌≡◌, ◌≤◌, ◌<◌, ◌+◌, ◌^◌, IfOk, IfSome, true, map, filter, eqb, length, ℕ, ◌-◌, ◌*◌}
 use Rattle.std.specs.List.{list_any}
 use Rattle.deneva_base.specs.Partitions.{partition_of}
 use Rattle.server_core.specs.Setting.{parts_of, take_first, home, homes, loaded_at}
@@ -7,8 +7,8 @@ use Rattle.txn_program.specs.Transactions.{numbers_below}
 use Rattle.txn_program.specs.declared.programs.Program.TheVariants.{Ycsb}
 use Rattle.deneva_base.specs.Rows.{row_of}
 use Rattle.plain_node.specs.Plain.{setting_at}
-use Rattle.plain_node.proofs.place.Place.+homes_from.Given as goal
+use Rattle.plain_node.proofs.seat.+parts_below.Given as goal
 
 -- proposed from what the function passes where it calls itself
-abbrev pub decreases-homes_from : goal.decreases-homes_from
-decreases-homes_from l = length l.programs.now
+abbrev pub decreases-parts_below : goal.decreases-parts_below
+decreases-parts_below l = l.below

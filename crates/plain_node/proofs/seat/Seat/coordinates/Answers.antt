@@ -6,10 +6,8 @@ use Rattle.server_core.specs.Stamps as stamps
 use Rattle.server_core.specs.declared.messages.Msg.TheVariants.{Start, Abort, Done, Undone}
 use Rattle.server_core.specs.Small.{SmallCause}
 use Rattle.plain_node.specs.Plain.{AllSmall, reply_of, ballot_of, setting_at}
-use Rattle.plain_node.proofs.place.Place.next_ask.Goals as goal
+use Rattle.plain_node.proofs.seat.Seat.coordinates.Goals as goal
 
--- src/coordinator.rt:394:5
-pub returns : goal.returns
-returns c =
-    let none : slice_get ((setting_at c.args.self.now).accesses c.args.who.txn) (length c.args.replies.now) ≡ None = search rules in
-    rw none c.prepare_all.ensures
+-- src/coordinator.rt:479:5
+pub returns-in-Refused : goal.returns-in-Refused
+returns-in-Refused c = rw c.in-Refused.is c.refused.ensures

@@ -2,8 +2,8 @@ use Rattle.std.proofs.Common.{rules, ◌≡◌, ◌≤◌, ◌==◌, ◌-◌, �
 use Rattle.std.specs.List.{list_any}
 use Rattle.deneva_base.specs.Partitions.{partition_of}
 use Rattle.plain_node.proofs.Below.{below_more}
-use Rattle.plain_node.proofs.place.+parts_below.Goals as goal
-use Rattle.plain_node.proofs.place.+parts_below.Goals.{then-is_accessed+in_ok-push, else-is_accessed}
+use Rattle.plain_node.proofs.seat.+parts_below.Goals as goal
+use Rattle.plain_node.proofs.seat.+parts_below.Goals.{then-is_accessed+in_ok-push, else-is_accessed}
 
 pub returns : goal.returns
 returns t c =

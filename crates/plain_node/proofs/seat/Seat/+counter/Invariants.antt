@@ -6,8 +6,8 @@ use Rattle.server_core.specs.Stamps as stamps
 use Rattle.server_core.specs.declared.messages.Msg.TheVariants.{Start, Undone}
 use Rattle.server_core.specs.Small.{SmallCause}
 use Rattle.plain_node.specs.Plain.{AllSmall, reply_of, ballot_of, setting_at}
-use Rattle.plain_node.proofs.place.Place.+stamp_from.Given as goal
+use Rattle.plain_node.proofs.seat.Seat.+counter.Given as goal
 
 -- proposed from what the function passes where it calls itself
-abbrev pub decreases-stamp_from : goal.decreases-stamp_from
-decreases-stamp_from l = length l.messages.now
+abbrev pub decreases-counter : goal.decreases-counter
+decreases-counter l = length l.messages.now

@@ -6,7 +6,7 @@ use Rattle.server_core.specs.Stamps as stamps
 use Rattle.server_core.specs.declared.messages.Msg.TheVariants.{Start, Abort, Done, Undone}
 use Rattle.server_core.specs.Small.{SmallCause}
 use Rattle.plain_node.specs.Plain.{AllSmall, reply_of, ballot_of, setting_at}
-use Rattle.plain_node.proofs.place.Place.asked_parts.Goals as goal
+use Rattle.plain_node.proofs.seat.Seat.asked_parts.Goals as goal
 
 -- src/coordinator.rt:222:5
 pub returns : goal.returns

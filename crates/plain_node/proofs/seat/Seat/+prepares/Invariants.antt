@@ -6,8 +6,8 @@ use Rattle.server_core.specs.Stamps as stamps
 use Rattle.server_core.specs.declared.messages.Msg.TheVariants.{Start, Undone}
 use Rattle.server_core.specs.Small.{SmallCause}
 use Rattle.plain_node.specs.Plain.{AllSmall, reply_of, ballot_of, setting_at}
-use Rattle.plain_node.proofs.place.Place.+overs.Given as goal
+use Rattle.plain_node.proofs.seat.Seat.+prepares.Given as goal
 
 -- proposed from what the function passes where it calls itself
-abbrev pub decreases-overs : goal.decreases-overs
-decreases-overs l = length l.messages.now
+abbrev pub decreases-prepares : goal.decreases-prepares
+decreases-prepares l = length l.parts.now

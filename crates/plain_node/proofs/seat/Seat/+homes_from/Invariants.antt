@@ -7,8 +7,8 @@ use Rattle.txn_program.specs.Transactions.{numbers_below}
 use Rattle.txn_program.specs.declared.programs.Program.TheVariants.{Ycsb}
 use Rattle.deneva_base.specs.Rows.{row_of}
 use Rattle.plain_node.specs.Plain.{setting_at}
-use Rattle.plain_node.proofs.place.+is_accessed.Given as goal
+use Rattle.plain_node.proofs.seat.Seat.+homes_from.Given as goal
 
 -- proposed from what the function passes where it calls itself
-abbrev pub decreases-is_accessed : goal.decreases-is_accessed
-decreases-is_accessed l = length l.list.now
+abbrev pub decreases-homes_from : goal.decreases-homes_from
+decreases-homes_from l = length l.programs.now

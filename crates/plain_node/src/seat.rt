@@ -16,7 +16,7 @@ use std::alloc::Global;
 use txn_program::{Effect, Program, StepList, Workload, accesses_of, effect_of};
 
 #[derive(Clone, Copy)]
-pub(crate) struct Place<'w> {
+pub(crate) struct Seat<'w> {
     pub(crate) config: Config,
     pub(crate) part: u8,
     pub(crate) work: &'w Workload,
@@ -64,7 +64,7 @@ fn parts_below(alloc: Global, below: u8, parts: u8, list: &[Access]) -> Result<V
     Ok(all)
 }
 
-impl Place<'_> {
+impl Seat<'_> {
     /// Whether a transaction keeps its first stamp.
     pub(crate) fn is_fixed(&self) -> bool
         ensures { result ≡ (setting_at self.now).fixed }
