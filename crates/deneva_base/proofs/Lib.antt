@@ -1,5 +1,6 @@
 pub mod KeyOrder
 pub mod RowMaps
+pub mod SortedRows
 pub mod Entries
 pub mod Words
 pub mod Windows

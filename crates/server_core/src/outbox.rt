@@ -34,7 +34,8 @@ impl Outbox {
     }
 
     pub fn len(&self) -> usize
-        ensures { result ≡ length self.now.mails }
+        ensures len { result ≡ length self.now.mails }
+        ensures small { length self.now.mails < 2 ^ 63 }
     {
         self.mails.len()
     }

@@ -2,7 +2,8 @@ use Rattle.std.proofs.Common.{◌≡◌, rules, sym, ap, refl, subst, ◌∙◌,
 use Rattle.std.proofs.lemmas.Fn.{always_returns_same}
 use Rattle.row_store.specs.Stores.{HaveDistinctKeys, row_in}
 use Rattle.row_store.proofs.Tables.{get_key}
-use Rattle.row_store.proofs.InOrder.{rows_of, rows_more, row_of-rows_of, distinct_rows_of, row_of-permuted, distinct-permuted, rise_from_sorted}
+use Rattle.deneva_base.proofs.SortedRows.{row_of-permuted, distinct-permuted, rise_from_sorted}
+use Rattle.row_store.proofs.InOrder.{rows_of, rows_more, row_of-rows_of, distinct_rows_of}
 use Rattle.row_store.proofs.store.Store.rows_in_order.Goals as goal
 
 pub loop-key-init : goal.loop-key-init

@@ -1,0 +1,6 @@
+mod Joined
+mod Positions
+mod Delivering
+mod AnyRuns
+mod Openings
+mod Running

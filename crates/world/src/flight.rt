@@ -1,0 +1,229 @@
+//! Items in a line, of which any can be taken out.
+ghost use Rattle.std.specs.Prelude.{◌≡◌, ◌++◌, ◌∷◌, [], ◌<◌, ◌≤◌, ◌^◌, length, slice_get, Some, IfErr, OnOk, OnErr};
+ghost use Rattle.std.specs.List.{remove};
+ghost use Rattle.world.specs.Chunks.{LiesAt, joined};
+
+use deneva_base::{NoMemory, PushNoMemory};
+use std::alloc::Global;
+use std::collections::VecDeque;
+use std::marker::Model;
+
+/// How many items a chunk has at most.
+const CHUNK: usize = 512;
+
+/// How many items a line has at most: more than a memory has room for.
+const MOST: usize = 1 << 62;
+
+/// A piece of a line. An item lies in a box, so that few bytes move where one is taken out.
+#[derive(Drop)]
+struct Chunk<T> {
+    items: VecDeque<Box<T>>,
+}
+
+impl<T> Model for Chunk<T> {
+    ghost use Rattle.std.specs.Prelude.{List, map};
+
+    ghost Value = { List T };
+
+    ghost view = { λ c. map (λ b. b.value) c.items.items };
+}
+
+impl<T> Chunk<T> {
+    fn new(alloc: Global) -> Chunk<T>
+        ensures { result ≡ [] }
+    {
+        Chunk {
+            items: VecDeque::new(alloc),
+        }
+    }
+
+    fn len(&self) -> usize
+        ensures { result ≡ length self.now }
+    {
+        self.items.len()
+    }
+
+    fn get(&self, place: usize) -> &T
+        requires { place < length self.now }
+        ensures { slice_get self.now place ≡ Some result.now }
+    {
+        &self.items[place]
+    }
+
+    /// Puts an item at the end.
+    fn push(&mut self, alloc: Global, item: T) -> Result<(), PushNoMemory<T>>
+        ensures ok { OnOk result (self.new ≡ self.old ++ item ∷ []) }
+        ensures err { OnErr result (self.new ≡ self.old) }
+        ensures returned { IfErr result (λ e. e.item ≡ item) }
+    {
+        match Box::new(alloc, item) {
+            Ok(item) => match self.items.push_back(item) {
+                Ok(()) => Ok(()),
+                Err(refused) => Err(PushNoMemory {
+                    item: Box::into_inner(refused.value),
+                }),
+            },
+            Err(refused) => Err(PushNoMemory {
+                item: refused.value,
+            }),
+        }
+    }
+
+    /// Takes out the item at this place.
+    fn take(&mut self, place: usize) -> T
+        requires { place < length self.old }
+        ensures item { slice_get self.old place ≡ Some result }
+        ensures left { self.new ≡ remove self.old place }
+    {
+        match self.items.remove(place) {
+            Some(item) => Box::into_inner(item),
+            None => unreachable!(),
+        }
+    }
+}
+
+/// The chunk that the item at `index` of all lies in, and its place there.
+fn find<T>(chunks: &VecDeque<Chunk<T>>, index: usize) -> (usize, usize)
+    requires { index < length (joined chunks.now.items) }
+    ensures { LiesAt chunks.now.items index result.0 result.1 }
+{
+    let mut chunk = 0;
+    let mut place = index;
+    loop {
+        let len = chunks[chunk].len();
+        if place < len {
+            return (chunk, place);
+        }
+        place -= len;
+        chunk += 1;
+    }
+}
+
+/// Items in the order in which they were put. Taking one out costs by the number of chunks.
+#[derive(Drop)]
+pub struct Flight<T> {
+    alloc: Global,
+    chunks: VecDeque<Chunk<T>>,
+    len: usize,
+}
+
+impl<T> Model for Flight<T> {
+    ghost use Rattle.std.specs.Prelude.{List, ◌≡◌, ◌≤◌, ◌^◌, length};
+    ghost use Rattle.world.specs.Chunks.{joined};
+
+    ghost Value = { List T };
+
+    ghost view = { λ f. joined f.chunks.items };
+
+    ghost invariant = { λ f. (f.len ≡ length (joined f.chunks.items)) × (f.len ≤ 2 ^ 62) };
+}
+
+impl<T> Flight<T> {
+    pub fn new(alloc: Global) -> Flight<T>
+        ensures { result ≡ [] }
+    {
+        Flight {
+            alloc,
+            chunks: VecDeque::new(alloc),
+            len: 0,
+        }
+    }
+
+    pub fn len(&self) -> usize
+        ensures len { result ≡ length self.now }
+        ensures small { length self.now ≤ 2 ^ 62 }
+    {
+        self.len
+    }
+
+    /// The item at `index`, counted from 0.
+    pub fn get(&self, index: usize) -> &T
+        requires { index < length self.now }
+        ensures { slice_get self.now index ≡ Some result.now }
+    {
+        let (chunk, place) = find(&self.chunks, index);
+        self.chunks[chunk].get(place)
+    }
+}
+
+impl<T: Drop> Flight<T> {
+    /// Puts an item at the end.
+    pub fn push(&mut self, item: T) -> Result<(), PushNoMemory<T>>
+        ensures ok { OnOk result (self.new ≡ self.old ++ item ∷ []) }
+        ensures err { OnErr result (self.new ≡ self.old) }
+        ensures returned { IfErr result (λ e. e.item ≡ item) }
+    {
+        if self.len >= MOST || open_last(self.alloc, &mut self.chunks).is_err() {
+            return Err(PushNoMemory { item });
+        }
+        match push_last(self.alloc, &mut self.chunks, item) {
+            Ok(()) => {
+                self.len += 1;
+                Ok(())
+            }
+            Err(refused) => Err(refused),
+        }
+    }
+
+    /// Takes out the item at `index`. It needs no memory.
+    pub fn take(&mut self, index: usize) -> T
+        requires { index < length self.old }
+        ensures item { slice_get self.old index ≡ Some result }
+        ensures left { self.new ≡ remove self.old index }
+    {
+        let item = take_at(&mut self.chunks, index);
+        self.len -= 1;
+        item
+    }
+}
+
+/// Has the last chunk be one with room: where there is none, an empty one is put at the end.
+fn open_last<T: Drop>(alloc: Global, chunks: &mut VecDeque<Chunk<T>>) -> Result<(), NoMemory>
+    ensures items { joined chunks.new.items ≡ joined chunks.old.items }
+    ensures ok { OnOk result (0 < length chunks.new.items) }
+{
+    if let Some(last) = chunks.back() {
+        if last.len() < CHUNK {
+            return Ok(());
+        }
+    }
+    Ok(chunks.push_back(Chunk::new(alloc))?)
+}
+
+/// Puts an item at the end of the last chunk.
+fn push_last<T>(alloc: Global, chunks: &mut VecDeque<Chunk<T>>, item: T) -> Result<(), PushNoMemory<T>>
+    requires { 0 < length chunks.old.items }
+    ensures ok { OnOk result (joined chunks.new.items ≡ joined chunks.old.items ++ item ∷ []) }
+    ensures err { OnErr result (joined chunks.new.items ≡ joined chunks.old.items) }
+    ensures returned { IfErr result (λ e. e.item ≡ item) }
+{
+    let last = chunks.len() - 1;
+    let chunk = &mut chunks[last];
+    match chunk.push(alloc, item) {
+        Ok(()) => Ok(()),
+        Err(refused) => Err(refused),
+    }
+}
+
+/// Takes out the item at `index` of all, and its chunk where none is left in it.
+fn take_at<T: Drop>(chunks: &mut VecDeque<Chunk<T>>, index: usize) -> T
+    requires { index < length (joined chunks.old.items) }
+    ensures item { slice_get (joined chunks.old.items) index ≡ Some result }
+    ensures left { joined chunks.new.items ≡ remove (joined chunks.old.items) index }
+{
+    let (number, place) = find(chunks, index);
+    let chunk = &mut chunks[number];
+    let item = chunk.take(place);
+    close_if_empty(chunks, number);
+    item
+}
+
+/// Takes out a chunk that has no items.
+fn close_if_empty<T: Drop>(chunks: &mut VecDeque<Chunk<T>>, number: usize)
+    requires { number < length chunks.old.items }
+    ensures { joined chunks.new.items ≡ joined chunks.old.items }
+{
+    if chunks[number].len() == 0 {
+        drop(chunks.remove(number));
+    }
+}

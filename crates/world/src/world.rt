@@ -1,0 +1,147 @@
+//! Worlds: the nodes of a run with its history and what is in flight.
+ghost use Rattle.std.specs.Prelude.{◌≡◌, ◌<◌, ℕ, [], length, reverse, IfOk, OnOk, OnErr};
+ghost use Rattle.txn_program.specs.Valid.{IsValid};
+ghost use Rattle.server_core.specs.Configs.{IsConfig};
+ghost use Rattle.server_core.specs.Picks.{begun, deliver, deliveries, most_entries, position};
+ghost use Rattle.server_core.specs.Says.{IsRun, says};
+ghost use Rattle.world.specs.Worlds.{HasNodes, IsRunning};
+
+use crate::flight::Flight;
+use crate::opening::opening;
+use crate::picker::Picker;
+use crate::settling::settle;
+use deneva_base::{Config, NoMemory};
+use server_core::{Entry, Mail, Outbox, Schedule, Server};
+use std::alloc::Global;
+use std::marker::Model;
+use txn_program::Workload;
+
+/// The nodes of a run, its history, and what is in flight after it.
+#[derive(Drop)]
+pub struct World<'w, S: Server<'w>> {
+    config: Config,
+    work: &'w Workload,
+    nodes: Vec<S>,
+    history: Vec<Entry>,
+    flight: Flight<Mail>,
+    /// A mail that found no room in the flight: it is the next one there.
+    held: Option<Mail>,
+    said: Outbox,
+}
+
+impl<'w, S: Server<'w>> Model for World<'w, S> {
+    ghost use Rattle.world.specs.Worlds.{Seen, IsRunning, HasNodes, seen, in_line};
+
+    ghost Value = { Seen };
+
+    ghost view = { λ w. seen w.config w.work.now w.history.items (in_line w.flight w.held w.said.mails) };
+
+    ghost invariant = { λ w. IsRunning S.protocol (seen w.config w.work.now w.history.items (in_line w.flight w.held w.said.mails)) × HasNodes S.role S.stands w.nodes.items (seen w.config w.work.now w.history.items (in_line w.flight w.held w.said.mails)) };
+}
+
+/// Nodes that have handled nothing, one for each part.
+fn fresh_nodes<'w, S: Server<'w>>(
+    alloc: Global,
+    config: Config,
+    work: &'w Workload,
+) -> Result<Vec<S>, NoMemory>
+    requires config { IsConfig config }
+    requires valid { IsValid work.now }
+    requires protocol { config.protocol ≡ S.protocol }
+    ensures { IfOk result (λ nodes. HasNodes S.role S.stands nodes.items (record { config = config; work = work.now; progress = begun config work.now })) }
+{
+    let mut nodes = Vec::with_capacity(alloc, usize::from(config.parts))?;
+    for part in 0..config.parts {
+        nodes.push(S::begin(alloc, config, part, work)?)?;
+    }
+    Ok(nodes)
+}
+
+impl<'w, S: Server<'w>> World<'w, S> {
+    /// Nodes that have handled nothing, and the first mails in flight.
+    pub fn begin(
+        alloc: Global,
+        config: Config,
+        work: &'w Workload,
+    ) -> Result<World<'w, S>, NoMemory>
+        requires config { IsConfig config }
+        requires valid { IsValid work.now }
+        requires protocol { config.protocol ≡ S.protocol }
+        ensures config { IfOk result (λ w. w.config ≡ config) }
+        ensures work { IfOk result (λ w. w.work ≡ work.now) }
+        ensures progress { IfOk result (λ w. w.progress ≡ begun config work.now) }
+    {
+        let flight = opening(alloc, config, work)?;
+        let nodes = fresh_nodes(alloc, config, work)?;
+        Ok(World {
+            config,
+            work,
+            nodes,
+            history: Vec::new(alloc),
+            flight,
+            held: None,
+            said: Outbox::new(alloc),
+        })
+    }
+
+    /// How many mails are in flight.
+    pub fn in_flight(&self) -> usize
+        ensures count { result ≡ length self.now.progress.flight }
+        ensures run { IsRunning S.protocol self.now }
+    {
+        let held = if self.held.is_some() { 1 } else { 0 };
+        self.flight.len() + held + self.said.len()
+    }
+
+    /// The entries so far, in the order of their places.
+    pub fn history(&self) -> &[Entry]
+        ensures entries { result.now ≡ reverse self.now.progress.entries }
+        ensures run { IsRun self.now.config self.now.work self.now.progress.entries self.now.progress.flight }
+    {
+        &self.history
+    }
+
+    /// Delivers the mail at position `k` of those in flight, in the order in which they were said.
+    pub fn deliver(&mut self, k: usize) -> Result<(), NoMemory>
+        requires { k < length self.old.progress.flight }
+        ensures config { self.new.config ≡ self.old.config }
+        ensures work { self.new.work ≡ self.old.work }
+        ensures ok { OnOk result (self.new.progress ≡ deliver (says self.old.config self.old.work) k self.old.progress) }
+        ensures err { OnErr result (self.new.progress ≡ self.old.progress) }
+    {
+        settle(&mut self.flight, &mut self.held, &mut self.said)?;
+        self.history.try_reserve(1)?;
+        let mail = self.flight.get(k);
+        let node = &mut self.nodes[usize::from(mail.to)];
+        node.handle(mail.from, &mail.msg, &mut self.said)?;
+        let mail = self.flight.take(k);
+        let place = self.history.len() as u64;
+        drop(self.history.push(Entry {
+            place,
+            from: mail.from,
+            node: mail.to,
+            msg: mail.msg,
+        }));
+        Ok(())
+    }
+
+    /// Delivers the mail that the schedule picks, until nothing is in flight. Where there is no memory, the deliveries so
+    /// far stand.
+    pub fn run(&mut self, schedule: &Schedule) -> Result<(), NoMemory>
+        ensures config { self.new.config ≡ self.old.config }
+        ensures work { self.new.work ≡ self.old.work }
+        ensures ok { OnOk result (self.new.progress ≡ deliveries (says self.old.config self.old.work) (position schedule.now) 0 (most_entries self.old.config self.old.work) self.old.progress) }
+        ensures quiet { OnOk result (self.new.progress.flight ≡ []) }
+        ensures err { OnErr result ((n : ℕ) × (self.new.progress ≡ deliveries (says self.old.config self.old.work) (position schedule.now) 0 n self.old.progress)) }
+    {
+        let mut picker = Picker::new(schedule);
+        loop {
+            let count = self.in_flight();
+            if count == 0 {
+                return Ok(());
+            }
+            let k = picker.next(count);
+            self.deliver(k)?;
+        }
+    }
+}
