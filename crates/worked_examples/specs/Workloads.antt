@@ -2,6 +2,7 @@
 use Rattle.std.specs.Prelude.{ℕ, List, [], ◌∷◌, codes}
 use Rattle.deneva_base.specs.declared.config.Config.{Config}
 use Rattle.deneva_base.specs.declared.config.Protocol.{Protocol}
+use Rattle.deneva_base.specs.declared.config.Protocol.TheVariants.{WaitDie}
 use Rattle.deneva_base.specs.declared.rows.Cell.TheVariants.{Text}
 use Rattle.deneva_base.specs.declared.rows.Keyed.{Keyed}
 use Rattle.txn_program.specs.Transactions.{ycsb_key}
@@ -35,6 +36,10 @@ workload rows programs = record { load = record { kind = kind.Ycsb; fields = 1; 
 -- so many partitions, with 8 attempts and 16 open transactions of a node
 abbrev pub over : Protocol → ℕ → Config
 over protocol parts = record { protocol = protocol; parts = parts; attempts = 8; limit = 16 }
+
+-- WAIT_DIE over two partitions, with two attempts
+abbrev pub two_tries : Config
+two_tries = record { protocol = WaitDie; parts = 2; attempts = 2; limit = 16 }
 
 abbrev pub no_transaction : Workload
 no_transaction = workload (loads 2 (codes "b") ∷ loads 5 (codes "a") ∷ []) []

@@ -1,0 +1,58 @@
+-- Computed, but for the run and the conclusions, which the laws give.
+use Rattle.std.proofs.Common.{refl, arith, []}
+use Rattle.std.specs.Fmt.{digits}
+use Rattle.txn_program.specs.Valid.{IsValid}
+use Rattle.deneva_base.specs.declared.config.Protocol.TheVariants.{WaitDie}
+use Rattle.server_core.specs.Configs.{IsConfig, IsVoting}
+use Rattle.server_core.specs.Limits.{Limits}
+use Rattle.server_core.specs.Picks.{picked}
+use Rattle.server_core.specs.Proper.{Valid}
+use Rattle.server_core.specs.Says.{IsQuiet}
+use Rattle.server_core.specs.Setting.{setting}
+use Rattle.server_core.specs.declared.schedules.Schedule.TheVariants.{Fifo}
+use Rattle.server_core.proofs.Limiteds.{limits}
+use Rattle.server_core.proofs.ValidSettings.{naming, waits, valid}
+use Rattle.server_core.proofs.Voted.{picked_quiet, all_named, atomic, serial, decided}
+use Rattle.worked_examples.specs.Workloads.{two_tries, three_writers_apart}
+use Rattle.worked_examples.proofs.premises.a_quiet_run_meets_the_laws.Goals as goal
+
+is_valid : IsValid three_writers_apart
+is_valid = refl
+
+in_range : IsConfig two_tries
+in_range = record {
+  some_parts = omega arith;
+  few_parts = omega arith;
+  some_attempts = omega arith;
+  few_attempts = omega arith;
+  some_open = omega arith;
+  few_open = omega arith;
+}
+
+votes : IsVoting WaitDie
+votes e = cc (e)
+
+fit : Valid (setting two_tries three_writers_apart)
+fit = valid two_tries three_writers_apart in_range is_valid votes
+
+limited : Limits (setting two_tries three_writers_apart)
+limited = limits two_tries three_writers_apart in_range is_valid votes
+
+is_quiet : IsQuiet two_tries three_writers_apart (picked two_tries three_writers_apart Fifo)
+is_quiet = picked_quiet two_tries three_writers_apart _ refl fit limited Fifo
+
+pub returns : goal.returns
+unfolding digits
+returns c =
+    let H = picked two_tries three_writers_apart Fifo in
+    record {
+      workload = is_valid;
+      config = in_range;
+      quiet = is_quiet;
+      waits = refl;
+      restarts = refl;
+      report = refl;
+      named = all_named two_tries three_writers_apart _ refl fit limited H [] (naming WaitDie votes) is_quiet;
+      atomic = atomic two_tries three_writers_apart _ refl fit limited H is_quiet;
+      serial = serial two_tries three_writers_apart _ refl fit limited is_valid H is_quiet (decided two_tries three_writers_apart _ refl fit limited H (waits WaitDie votes) is_quiet);
+    }
