@@ -5,6 +5,7 @@ mod finishing;
 mod flight;
 mod opening;
 mod picker;
+mod same;
 mod settling;
 mod world;
 

@@ -1,5 +1,5 @@
 //! Worlds: the nodes of a run with its history and what is in flight.
-ghost use Rattle.std.specs.Prelude.{◌≡◌, ◌<◌, ℕ, [], length, reverse, true, IfOk, OnOk, OnErr};
+ghost use Rattle.std.specs.Prelude.{◌≡◌, ◌<◌, ℕ, List, [], Some, slice_get, IfSome, IfNone, length, reverse, true, IfOk, OnOk, OnErr};
 ghost use Rattle.deneva_base.specs.Partitions.{partition_of};
 ghost use Rattle.deneva_base.specs.Rising.{keys_rise};
 ghost use Rattle.deneva_base.specs.Rows.{row_of};
@@ -10,14 +10,16 @@ ghost use Rattle.server_core.specs.NodeRows.{rows_of_node};
 ghost use Rattle.server_core.specs.Picks.{begun, deliver, deliveries, most_entries, position};
 ghost use Rattle.server_core.specs.Runs.{heard};
 ghost use Rattle.server_core.specs.Says.{IsRun, says};
-ghost use Rattle.world.specs.Worlds.{HasNodes, IsRunning};
+ghost use Rattle.server_core.specs.declared.messages.Mail.{Mail};
+ghost use Rattle.world.specs.Replays.{Gives};
+ghost use Rattle.world.specs.Worlds.{HasNodes, IsRunning, seen};
 
 use crate::finishing::{gather, in_key_order};
 use crate::flight::Flight;
 use crate::opening::opening;
 use crate::picker::Picker;
 use crate::settling::settle;
-use deneva_base::{Config, NoMemory, RowList};
+use deneva_base::{Config, Items, NoMemory, RowList};
 use server_core::{Entry, History, Mail, Outbox, Schedule, Server};
 use std::alloc::Global;
 use std::marker::Model;
@@ -174,5 +176,57 @@ impl<'w, S: Server<'w>> World<'w, S> {
             history: History::of(self.history),
             rows,
         })
+    }
+
+    /// Nodes as they stand after a history that is a run of theirs. What is in flight after it is found by delivering its
+    /// mails to other nodes, from the start.
+    pub fn resume(
+        alloc: Global,
+        config: Config,
+        work: &'w Workload,
+        nodes: Items<S>,
+        history: History,
+    ) -> Result<World<'w, S>, NoMemory>
+        requires config { IsConfig config }
+        requires valid { IsValid work.now }
+        requires protocol { config.protocol ≡ S.protocol }
+        requires run { (flight : List Mail) × IsRun config work.now (reverse history) flight }
+        requires nodes { HasNodes S.role S.stands nodes (seen config work.now history []) }
+        ensures config { IfOk result (λ w. w.config ≡ config) }
+        ensures work { IfOk result (λ w. w.work ≡ work.now) }
+        ensures entries { IfOk result (λ w. w.progress.entries ≡ reverse history) }
+    {
+        let mut world: World<'w, S> = World::begin(alloc, config, work)?;
+        world.replay(history.as_slice())?;
+        world.nodes = nodes.into_vec();
+        Ok(world)
+    }
+
+    /// Delivers the mails of a history, from the start.
+    fn replay(&mut self, history: &[Entry]) -> Result<(), NoMemory>
+        requires start { self.old.progress.entries ≡ [] }
+        requires run { (flight : List Mail) × IsRun self.old.config self.old.work (reverse history.now) flight }
+        ensures config { self.new.config ≡ self.old.config }
+        ensures work { self.new.work ≡ self.old.work }
+        ensures entries { OnOk result (self.new.progress.entries ≡ reverse history.now) }
+    {
+        for entry in history {
+            match self.find(entry)? {
+                Some(k) => self.deliver(k)?,
+                None => unreachable!(),
+            }
+        }
+        Ok(())
+    }
+
+    /// The position of the first mail in flight that gives this entry.
+    fn find(&mut self, entry: &Entry) -> Result<Option<usize>, NoMemory>
+        ensures same { self.new ≡ self.old }
+        ensures run { IsRunning S.protocol self.old }
+        ensures some { IfOk result (λ found. IfSome found (λ k. (m : Mail) × (slice_get self.old.progress.flight k ≡ Some m) × Gives m entry.now)) }
+        ensures none { IfOk result (λ found. IfNone found ((k : ℕ) (m : Mail) → slice_get self.old.progress.flight k ≡ Some m → Gives m entry.now → ⊥)) }
+    {
+        settle(&mut self.flight, &mut self.held, &mut self.said)?;
+        Ok(self.flight.position(entry))
     }
 }
