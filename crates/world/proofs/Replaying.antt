@@ -1,11 +1,11 @@
 -- A history that is a run, delivered again.
-use Rattle.std.proofs.Common.{◌≡◌, ℕ, zero, suc, ◌+◌, ◌<◌, List, [], ◌∷◌, ◌++◌, length, take, drop, reverse, slice_get, Some, append_assoc, refl, sym, ap, ◌∙◌, subst, arith}
+use Rattle.std.proofs.Common.{◌≡◌, ℕ, suc, ◌+◌, List, [], ◌∷◌, ◌++◌, length, take, drop, reverse, slice_get, Some, append_assoc, sym, ap, ◌∙◌, subst, arith}
 use Rattle.std.proofs.lemmas.List.{reverse-append}
 use Rattle.deneva_base.specs.declared.config.Config.{Config}
 use Rattle.txn_program.specs.declared.programs.Workload.{Workload}
 use Rattle.server_core.specs.Says.{IsRun}
 use Rattle.server_core.specs.Picks.{Progress, deliver, delivered}
-use Rattle.server_core.specs.Runs.{Saying, Reaches, Step, entry_of, heard}
+use Rattle.server_core.specs.Runs.{Saying, Reaches, entry_of, heard}
 use Rattle.server_core.specs.declared.messages.Entry.{Entry}
 use Rattle.server_core.specs.declared.messages.Mail.{Mail}
 use Rattle.server_core.specs.declared.messages.Msg.{Msg}
@@ -25,8 +25,8 @@ module _ (says : Saying) (opening : List Mail) where
   next_run history i e flight at r =
       let rest = drop (suc i) history in
       let split : reverse history ≡ reverse rest ++ (e ∷ reverse (take i history)) =
-        ap reverse (parted history i e at) ∙ reverse-append (take i history) (e ∷ rest)
-        ∙ ap (λ l. l ++ reverse (take i history)) (reverse-append (e ∷ []) rest) ∙ append_assoc (reverse rest) (e ∷ []) (reverse (take i history)) in
+      ap reverse (parted history i e at) ∙ reverse-append (take i history) (e ∷ rest)
+      ∙ ap (λ l. l ++ reverse (take i history)) (reverse-append (e ∷ []) rest) ∙ append_assoc (reverse rest) (e ∷ []) (reverse (take i history)) in
       older_run (reverse rest) (e ∷ reverse (take i history)) flight (subst (λ l. Reaches says opening l flight) split r)
 
   module _ (history : List Entry) (i : ℕ) (e : Entry) (flight : List Mail) (at : slice_get history i ≡ Some e) (r : Reaches says opening (reverse history) flight) (p : Progress)
@@ -65,10 +65,10 @@ pub same_nodes : {S : Type 0} (role : S → Role) (stands : S → List Msg → T
 same_nodes role stands nodes w v has config work entries = record {
   count = has.count ∙ ap (λ c. c.parts) config;
   each = λ p s at.
-    let was = has.each p s at in (
-      was.0 ∙ (λ i. record { config = config i; work = work i; part = p }),
-      subst (λ l. stands s (heard p l)) entries was.1,
-    );
+      let was = has.each p s at in (
+        was.0 ∙ (λ i. record { config = config i; work = work i; part = p }),
+        subst (λ l. stands s (heard p l)) entries was.1,
+      );
 }
 
 pub run_of : (c d : Config) (w v : Workload) (H K : List Entry) (flight : List Mail) → c ≡ d → w ≡ v → H ≡ K → IsRun d v K flight → IsRun c w H flight

@@ -195,7 +195,11 @@ fn open_last<T: Drop>(alloc: Global, chunks: &mut VecDeque<Chunk<T>>) -> Result<
 }
 
 /// Puts an item at the end of the last chunk.
-fn push_last<T>(alloc: Global, chunks: &mut VecDeque<Chunk<T>>, item: T) -> Result<(), PushNoMemory<T>>
+fn push_last<T>(
+    alloc: Global,
+    chunks: &mut VecDeque<Chunk<T>>,
+    item: T,
+) -> Result<(), PushNoMemory<T>>
     requires { 0 < length chunks.old.items }
     ensures ok { OnOk result (joined chunks.new.items ≡ joined chunks.old.items ++ item ∷ []) }
     ensures err { OnErr result (joined chunks.new.items ≡ joined chunks.old.items) }

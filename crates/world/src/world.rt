@@ -7,9 +7,9 @@ ghost use Rattle.deneva_base.specs.declared.keys.Key.{Key};
 ghost use Rattle.txn_program.specs.Valid.{IsValid};
 ghost use Rattle.server_core.specs.Configs.{IsConfig};
 ghost use Rattle.server_core.specs.NodeRows.{rows_of_node};
-ghost use Rattle.server_core.specs.Picks.{begun, deliver, deliveries, most_entries, position};
+ghost use Rattle.server_core.specs.Picks.{begun, deliver, deliveries, most_entries, picked, position};
 ghost use Rattle.server_core.specs.Runs.{heard};
-ghost use Rattle.server_core.specs.Says.{IsRun, says};
+ghost use Rattle.server_core.specs.Says.{IsQuiet, IsRun, says};
 ghost use Rattle.server_core.specs.declared.messages.Mail.{Mail};
 ghost use Rattle.world.specs.Replays.{Gives};
 ghost use Rattle.world.specs.Worlds.{HasNodes, IsRunning, seen};
@@ -135,12 +135,14 @@ impl<'w, S: Server<'w>> World<'w, S> {
         node.handle(mail.from, &mail.msg, &mut self.said)?;
         let mail = self.flight.take(k);
         let place = self.history.len() as u64;
-        drop(self.history.push(Entry {
-            place,
-            from: mail.from,
-            node: mail.to,
-            msg: mail.msg,
-        }));
+        drop(
+            self.history.push(Entry {
+                place,
+                from: mail.from,
+                node: mail.to,
+                msg: mail.msg,
+            }),
+        );
         Ok(())
     }
 
@@ -170,6 +172,7 @@ impl<'w, S: Server<'w>> World<'w, S> {
         ensures order { IfOk result (λ f. keys_rise f.rows ≡ true) }
         ensures rows { IfOk result (λ f. (key : Key) → row_of f.rows key ≡ rows_of_node self.entry.config self.entry.work (partition_of key self.entry.config.parts) (heard (partition_of key self.entry.config.parts) self.entry.progress.entries) key) }
         ensures run { IsRunning S.protocol self.entry }
+        ensures quiet { self.entry.progress.flight ≡ [] → IsQuiet self.entry.config self.entry.work self.entry.progress.entries }
     {
         let rows = in_key_order(gather(self.alloc, &self.nodes)?)?;
         Ok(Finished {
@@ -229,4 +232,24 @@ impl<'w, S: Server<'w>> World<'w, S> {
         settle(&mut self.flight, &mut self.held, &mut self.said)?;
         Ok(self.flight.position(entry))
     }
+}
+
+/// The run that a schedule picks, from the start until nothing is in flight.
+pub fn run_all<'w, S: Server<'w>>(
+    alloc: Global,
+    config: Config,
+    work: &'w Workload,
+    schedule: &Schedule,
+) -> Result<World<'w, S>, NoMemory>
+    requires config { IsConfig config }
+    requires valid { IsValid work.now }
+    requires protocol { config.protocol ≡ S.protocol }
+    ensures config { IfOk result (λ w. w.config ≡ config) }
+    ensures work { IfOk result (λ w. w.work ≡ work.now) }
+    ensures entries { IfOk result (λ w. w.progress.entries ≡ picked config work.now schedule.now) }
+    ensures quiet { IfOk result (λ w. w.progress.flight ≡ []) }
+{
+    let mut world: World<'w, S> = World::begin(alloc, config, work)?;
+    world.run(schedule)?;
+    Ok(world)
 }

@@ -1,8 +1,7 @@
-use Rattle.std.proofs.Common.{◌≡◌, ℕ, suc, ◌+◌, ◌<◌, ◌++◌, ◌∷◌, [], length, take, slice_get, Some, length-append, refl, sym, ap, ◌∙◌, arith}
+use Rattle.std.proofs.Common.{◌≡◌, ◌+◌, ◌<◌, ◌++◌, length, take, slice_get, length-append, refl, sym, ap, ◌∙◌, arith}
 use Rattle.std.proofs.lemmas.Option.{slice_get_read, slice_get_within}
-use Rattle.server_core.specs.declared.messages.Mail.{Mail}
 use Rattle.world.specs.Chunks.{joined}
-use Rattle.world.proofs.Joined.{item_at, lies_here, index_in, take-parted, joined-append, append_cases, joined_one, short_front}
+use Rattle.world.proofs.Joined.{item_at, lies_here, append_cases, joined_one, short_front}
 use Rattle.world.proofs.flight.position_in.Goals as goal
 
 pub overflow_add-result : goal.overflow_add-result
@@ -50,6 +49,6 @@ loop-number-preserved c =
     record {
       count = omega (arith, len, count, sum, length-append (joined (take i chunks)) chunk);
       none = λ index m at given. append_cases (joined (take i chunks)) chunk index m (ap (λ l. slice_get l index) (sym one) ∙ at)
-        (λ left. c.loop-number.invariant.none index m left given)
-        (λ place right. c.in_default.ensures.none place m right given);
+          (λ left. c.loop-number.invariant.none index m left given)
+          (λ place right. c.in_default.ensures.none place m right given);
     }

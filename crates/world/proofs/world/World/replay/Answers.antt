@@ -1,4 +1,4 @@
-use Rattle.std.proofs.Common.{◌≡◌, ◌<◌, ℕ, List, length, reverse, slice_get, Some, refl, sym, ap, ◌∙◌, subst}
+use Rattle.std.proofs.Common.{◌<◌, length, reverse, refl, sym, ap, ◌∙◌, subst}
 use Rattle.std.proofs.lemmas.Option.{slice_get_read, slice_get_within}
 use Rattle.server_core.specs.Picks.{Progress, deliver}
 use Rattle.server_core.specs.Says.{says, opening_mails}
@@ -41,6 +41,6 @@ loop-entry-preserved g c =
       config = c.deliver.ensures.config ∙ ap (λ (x : Seen). x.config) same ∙ inv.config;
       work = c.deliver.ensures.work ∙ ap (λ (x : Seen). x.work) same ∙ inv.work;
       entries =
-        ap (λ (p : Progress). p.entries) (c.in_ok-deliver-in-Some.ensures.ok ∙ ap (λ (x : Seen). deliver (says x.config x.work) c.in-Some.k x.progress) same)
-        ∙ replayed (says w.config w.work) (opening_mails w.config w.work) history i e c.requires.run.0 at run w.progress inv.entries c.find.ensures.run.run c.in-Some.k found.0 found.1 found.2;
+          ap (λ (p : Progress). p.entries) (c.in_ok-deliver-in-Some.ensures.ok ∙ ap (λ (x : Seen). deliver (says x.config x.work) c.in-Some.k x.progress) same)
+          ∙ replayed (says w.config w.work) (opening_mails w.config w.work) history i e c.requires.run.0 at run w.progress inv.entries c.find.ensures.run.run c.in-Some.k found.0 found.1 found.2;
     }

@@ -1,4 +1,4 @@
-use Rattle.std.proofs.Common.{◌≡◌, List, [], reverse, refl, sym, ap, ◌∙◌, subst}
+use Rattle.std.proofs.Common.{List, [], reverse, refl, sym, ap, ◌∙◌, subst}
 use Rattle.server_core.specs.Picks.{Progress}
 use Rattle.world.specs.Worlds.{Seen, HasNodes, seen, in_line}
 use Rattle.world.proofs.Replaying.{run_of, same_nodes}
@@ -18,11 +18,10 @@ invariant_of-world g c =
     let w = seen c.args.config c.args.work.now c.args.history [] in
     let first = c.in_ok-world.ensures in
     let then = c.in_ok-replay.ensures in
-    let nodes = subst (λ (l : List g.row.S.Denot). HasNodes g.S.Handles.role g.S.Handles.stands l w) (sym c.into_vec.ensures) c.requires.nodes in
-    (
+    let nodes = subst (λ (l : List g.row.S.Denot). HasNodes g.S.Handles.role g.S.Handles.stands l w) (sym c.into_vec.ensures) c.requires.nodes in (
       c.world.invariant.0,
       same_nodes g.S.Handles.role g.S.Handles.stands c.into_vec.result.items w v nodes
-      (sym (ap (λ (x : Seen). x.config) c.world.view_is ∙ then.config ∙ first.config))
-      (sym (ap (λ (x : Seen). x.work) c.world.view_is ∙ then.work ∙ first.work))
-      (sym (ap (λ (x : Seen). x.progress.entries) c.world.view_is ∙ then.entries ∙ ap reverse c.as_slice.ensures)),
+          (sym (ap (λ (x : Seen). x.config) c.world.view_is ∙ then.config ∙ first.config))
+          (sym (ap (λ (x : Seen). x.work) c.world.view_is ∙ then.work ∙ first.work))
+          (sym (ap (λ (x : Seen). x.progress.entries) c.world.view_is ∙ then.entries ∙ ap reverse c.as_slice.ensures)),
     )
