@@ -1,5 +1,5 @@
 -- One delivery.
-use Rattle.std.proofs.Common.{◌≡◌, ◌≢◌, ◌⊎◌, ℕ, zero, suc, ◌+◌, ◌<◌, List, [], ◌∷◌, ◌++◌, length, reverse, slice_get, Option, Some, None, eqb, cond, refl, sym, ap, ap₂, ◌∙◌, subst, inl, inr, ⊎_elim, arith}
+use Rattle.std.proofs.Common.{◌≡◌, ◌≢◌, ◌⊎◌, ℕ, zero, suc, ◌<◌, List, [], ◌∷◌, ◌++◌, length, reverse, slice_get, Option, Some, None, cond, refl, sym, ap, ap₂, ◌∙◌, subst, inl, inr, ⊎_elim, arith}
 use Rattle.std.specs.Prelude.{slice_set}
 use Rattle.std.specs.List.{remove}
 use Rattle.std.proofs.lemmas.Bool.Decides.{eqb_tells}
@@ -58,12 +58,12 @@ module _ {S : Type 0} (role : S → Role) (stands : S → List Msg → Type 0) (
   nodes_same keeps = record {
     count = length-set nodes i new ∙ has.count;
     each = λ p x e. ⊎_elim
-      (λ h.
-      let was = has.each i s at in
-      subst (λ q. (role x ≡ role_in w q) × stands x (heard q w.progress.entries)) (sym h.0)
-      (subst (λ y. (role y ≡ role_in w i) × stands y (heard i w.progress.entries)) (sym h.1) (same ∙ was.0, keeps (heard i w.progress.entries) was.1)))
-      (λ h. has.each p x h.1)
-      (set_cases nodes i p s new x at e);
+        (λ h.
+        let was = has.each i s at in
+        subst (λ q. (role x ≡ role_in w q) × stands x (heard q w.progress.entries)) (sym h.0)
+        (subst (λ y. (role y ≡ role_in w i) × stands y (heard i w.progress.entries)) (sym h.1) (same ∙ was.0, keeps (heard i w.progress.entries) was.1)))
+        (λ h. has.each p x h.1)
+        (set_cases nodes i p s new x at e);
   }
 
   -- a node that has handled one more
@@ -72,12 +72,12 @@ module _ {S : Type 0} (role : S → Role) (stands : S → List Msg → Type 0) (
   nodes_more m place flight to stand = record {
     count = length-set nodes i new ∙ has.count;
     each = λ p x e. ⊎_elim
-      (λ h.
-      let was = has.each i s at in
-      subst (λ q. (role x ≡ role_in w q) × stands x (heard q (entry_of place m ∷ w.progress.entries))) (sym h.0)
-      (subst (λ y. (role y ≡ role_in w i) × stands y (heard i (entry_of place m ∷ w.progress.entries))) (sym h.1) (same ∙ was.0, subst (stands new) (here i to) stand)))
-      (λ h. let was = has.each p x h.1 in (was.0, subst (stands x) (other p (λ q. h.0 (sym q ∙ to))) was.1))
-      (set_cases nodes i p s new x at e);
+        (λ h.
+        let was = has.each i s at in
+        subst (λ q. (role x ≡ role_in w q) × stands x (heard q (entry_of place m ∷ w.progress.entries))) (sym h.0)
+        (subst (λ y. (role y ≡ role_in w i) × stands y (heard i (entry_of place m ∷ w.progress.entries))) (sym h.1) (same ∙ was.0, subst (stands new) (here i to) stand)))
+        (λ h. let was = has.each p x h.1 in (was.0, subst (stands x) (other p (λ q. h.0 (sym q ∙ to))) was.1))
+        (set_cases nodes i p s new x at e);
   }
     where
       here : (q : ℕ) → m.to ≡ q → m.msg ∷ heard q w.progress.entries ≡ heard q (entry_of place m ∷ w.progress.entries)
@@ -123,8 +123,7 @@ pub after : {S : Type 0} (role : S → Role) (stands : S → List Msg → Type 0
     → p ≡ deliver (says w.config w.work) k w.progress
     → IsRunning protocol (record { config = w.config; work = w.work; progress = p }) × HasNodes role stands (slice_set nodes i new) (record { config = w.config; work = w.work; progress = p })
 after role stands protocol nodes w running has k i m s new p at to here same stand is =
-    let step : deliver (says w.config w.work) k w.progress ≡ delivered (says w.config w.work) k w.progress (Some m) = ap (delivered (says w.config w.work) k w.progress) at in
-    (
+    let step : deliver (says w.config w.work) k w.progress ≡ delivered (says w.config w.work) k w.progress (Some m) = ap (delivered (says w.config w.work) k w.progress) at in (
       record {
         ranges = running.ranges;
         valid = running.valid;
@@ -132,7 +131,7 @@ after role stands protocol nodes w running has k i m s new p at to here same sta
         run = subst (λ (q : Progress). IsRun w.config w.work q.entries q.flight) (sym is) (deliver_run w.config w.work running.ranges running.valid k w.progress running.run);
       },
       subst (λ (q : Progress). HasNodes role stands (slice_set nodes i new) (record { config = w.config; work = w.work; progress = q })) (sym (is ∙ step))
-      (nodes_more role stands nodes w has i s new here same m (length w.progress.entries) (delivered (says w.config w.work) k w.progress (Some m)).flight to stand),
+          (nodes_more role stands nodes w has i s new here same m (length w.progress.entries) (delivered (says w.config w.work) k w.progress (Some m)).flight to stand),
     )
 
 -- and there is one

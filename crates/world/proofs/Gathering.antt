@@ -1,5 +1,5 @@
 -- Rows of several nodes, each of which has rows of its own keys alone.
-use Rattle.std.proofs.Common.{◌≡◌, ◌≢◌, ◌⊎◌, ℕ, zero, suc, ◌+◌, ◌<◌, ◌≤◌, List, [], ◌∷◌, ◌++◌, length, map, slice_get, take, Bool, true, false, cond, Option, Some, None, length-append, refl, sym, ap, ap₂, ◌∙◌, subst, inl, inr, ⊎_elim, true≢false, arith}
+use Rattle.std.proofs.Common.{◌≡◌, ◌≢◌, ℕ, zero, suc, ◌+◌, ◌<◌, List, [], ◌∷◌, ◌++◌, length, map, slice_get, Bool, true, false, cond, Some, None, length-append, refl, sym, ap, ap₂, ◌∙◌, subst, inl, inr, ⊎_elim, true≢false, arith}
 use Rattle.std.specs.List.{IsDistinct, AllByRecursion}
 use Rattle.std.proofs.lemmas.Bool.Decides.{eqb_tells}
 use Rattle.std.proofs.lemmas.Map.Keys.{IsDistinct-head, IsDistinct-tail, IsDistinct-cons}
@@ -8,7 +8,7 @@ use Rattle.std.proofs.lemmas.List.{append-nil}
 use Rattle.deneva_base.specs.Keys.{key_eq}
 use Rattle.deneva_base.specs.Lists.{IsIn}
 use Rattle.deneva_base.specs.Rising.{keys_rise}
-use Rattle.deneva_base.specs.Rows.{row_of, Row}
+use Rattle.deneva_base.specs.Rows.{row_of}
 use Rattle.deneva_base.specs.declared.keys.Key.{Key}
 use Rattle.deneva_base.specs.declared.rows.Keyed.{Keyed}
 use Rattle.deneva_base.proofs.KeyOrder.{key_eq_equivalence}
@@ -116,18 +116,18 @@ gathered_more role stands nodes new s rows all more is g of put = record {
   all = put ∙ ap₂ (λ (x y : List Keyed). x ++ y) g.all (sym (append-nil more)) ∙ sym (joined-append g.lists (more ∷ []));
   count = let c = g.count in let n = ap length is in omega (arith, c, n, length-append g.lists (more ∷ []), length-append nodes (s ∷ []));
   each = λ p x l at_node at_list.
-    let node = push_cases nodes s x p (ap (λ z. slice_get z p) (sym is) ∙ at_node) in
-    let list = push_cases g.lists more l p at_list in
-    ⊎_elim
-    (λ h. ⊎_elim
-    (λ k. subst (λ z. AreRowsOf role stands z l) (sym h.1) (subst (λ z. AreRowsOf role stands s z) (sym k.1) of))
-    (λ k. absurd (let c = g.count in let a = h.0 in let b = within g.lists p l k in omega (arith, a, b, c)))
-    list)
-    (λ h. ⊎_elim
-    (λ k. absurd (let c = g.count in let a = k.0 in let b = within nodes p x h in omega (arith, a, b, c)))
-    (λ k. g.each p x l h k)
-    list)
-    node;
+      let node = push_cases nodes s x p (ap (λ z. slice_get z p) (sym is) ∙ at_node) in
+      let list = push_cases g.lists more l p at_list in
+      ⊎_elim
+      (λ h. ⊎_elim
+      (λ k. subst (λ z. AreRowsOf role stands z l) (sym h.1) (subst (λ z. AreRowsOf role stands s z) (sym k.1) of))
+      (λ k. absurd (let c = g.count in let a = h.0 in let b = within g.lists p l k in omega (arith, a, b, c)))
+      list)
+      (λ h. ⊎_elim
+      (λ k. absurd (let c = g.count in let a = k.0 in let b = within nodes p x h in omega (arith, a, b, c)))
+      (λ k. g.each p x l h k)
+      list)
+      node;
 }
   where
     within : {A : Type 0} (xs : List A) (p : ℕ) (x : A) → slice_get xs p ≡ Some x → p < length xs

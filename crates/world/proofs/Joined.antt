@@ -136,3 +136,20 @@ close_at chunks i c at none =
     joined-append (take i chunks) (drop (suc i) chunks)
     ∙ ap (λ l. joined (take i chunks) ++ (l ++ joined (drop (suc i) chunks))) (sym (nil_from_length c none))
     ∙ sym (joined-at chunks i c at)
+
+-- the chunks up to one, and that one
+pub joined_one : {A : Type 0} (chunks : List (List A)) (i : ℕ) (c : List A) → slice_get chunks i ≡ Some c → joined (take (i + 1) chunks) ≡ joined (take i chunks) ++ c
+joined_one chunks i c at =
+    let is : i + 1 ≡ suc i = omega arith in
+    ap (λ n. joined (take n chunks)) is ∙ ap joined (take-parted chunks i c at) ∙ joined-append (take i chunks) (c ∷ []) ∙ ap (λ l. joined (take i chunks) ++ l) (append-nil c)
+
+pub short_front : {A : Type 0} (chunks : List (List A)) (i : ℕ) (c : List A) → slice_get chunks i ≡ Some c → length (joined (take i chunks)) + length c ≤ length (joined chunks)
+short_front chunks i c at =
+    let whole = ap length (joined-at chunks i c at) in
+    omega (arith, whole, length-append (joined (take i chunks)) (c ++ joined (drop (suc i) chunks)), length-append c (joined (drop (suc i) chunks)))
+
+-- an item of two lists is one of the first or of the second
+pub append_cases : {A P : Type 0} (xs ys : List A) (i : ℕ) (x : A) → slice_get (xs ++ ys) i ≡ Some x → (slice_get xs i ≡ Some x → P) → ((j : ℕ) → slice_get ys j ≡ Some x → P) → P
+append_cases [] ys i x e left right = right i e
+append_cases (y ∷ xs) ys zero x e left right = left e
+append_cases (y ∷ xs) ys (suc i) x e left right = append_cases xs ys i x e left right

@@ -5,3 +5,5 @@ mod AnyRuns
 mod Openings
 mod Running
 mod Gathering
+mod Alike
+mod Replaying

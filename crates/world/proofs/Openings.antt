@@ -1,9 +1,9 @@
 -- The mails in flight at the start, one after another.
-use Rattle.std.proofs.Common.{◌≡◌, ◌≢◌, ◌⊎◌, ℕ, zero, suc, ◌+◌, ◌-◌, ◌*◌, ◌%◌, ◌/◌, ◌<◌, ◌≤◌, List, [], ◌∷◌, ◌++◌, length, map, filter, drop, take, slice_get, Some, Bool, true, false, eqb, cond, ltb, ◌&&◌, refl, sym, ap, ◌∙◌, subst, inl, inr, ⊎_elim, append_assoc, arith}
+use Rattle.std.proofs.Common.{◌≡◌, ◌≢◌, ◌⊎◌, ℕ, zero, suc, ◌+◌, ◌-◌, ◌%◌, ◌<◌, ◌≤◌, List, [], ◌∷◌, ◌++◌, length, map, filter, drop, slice_get, Some, Bool, true, false, eqb, cond, ltb, ◌&&◌, refl, sym, ap, ◌∙◌, ⊎_elim, append_assoc, arith}
 use Rattle.std.specs.Prelude.{nat_le}
 use Rattle.std.specs.List.{flat_map, list_all}
 use Rattle.std.proofs.lemmas.Bool.Decides.{nat_tests}
-use Rattle.std.proofs.lemmas.List.{append-nil, drop_all, map-append, nil_from_length}
+use Rattle.std.proofs.lemmas.List.{append-nil, nil_from_length}
 use Rattle.std.proofs.lemmas.Grind.{flat_map-append}
 use Rattle.std.proofs.lemmas.Option.{get_or_from_slice_get}
 use Rattle.deneva_base.specs.Lists.{IsIn, greatest_by}
@@ -14,7 +14,7 @@ use Rattle.deneva_base.specs.declared.keys.Key.{Key}
 use Rattle.deneva_base.specs.declared.numbers.TxnId.{TxnId}
 use Rattle.deneva_base.proofs.Words.{and_parts}
 use Rattle.txn_program.specs.Serial.{ids_from, all_ids, program_of}
-use Rattle.txn_program.specs.Transactions.{accesses, first_key, home_of, numbers_below, ycsb_key}
+use Rattle.txn_program.specs.Transactions.{accesses, first_key, home_of, numbers_below}
 use Rattle.txn_program.specs.Valid.{IsValid, is_valid_program, is_valid_load}
 use Rattle.txn_program.specs.declared.programs.Program.{Program}
 use Rattle.txn_program.specs.declared.programs.Program.TheVariants.{Ycsb}
@@ -103,7 +103,7 @@ some_epochs : (s : Setting) (x : TxnId) (ids : List TxnId) → 1 ≤ s.parts →
 some_epochs s x ids some is =
     let below : home s x < s.parts = go (s.accesses x) in
     let here : homes s (home s x) ≡ x ∷ filter (λ y. eqb (home s y) (home s x)) ids =
-      ap (filter (λ y. eqb (home s y) (home s x))) is ∙ ap (λ (b : Bool). cond b (x ∷ filter (λ y. eqb (home s y) (home s x)) ids) (filter (λ y. eqb (home s y) (home s x)) ids)) (same_number (home s x)) in
+    ap (filter (λ y. eqb (home s y) (home s x))) is ∙ ap (λ (b : Bool). cond b (x ∷ filter (λ y. eqb (home s y) (home s x)) ids) (filter (λ y. eqb (home s y) (home s x)) ids)) (same_number (home s x)) in
     let one : 1 ≤ length (homes s (home s x)) = let l = ap length here in omega (arith, l) in
     let most = greatest_some (λ q. eights (length (homes s q))) (home s x) (numbers_below s.parts) (in_below (home s x) s.parts below) in
     let eight : 1 ≤ eights (length (homes s (home s x))) = omega (arith, one) in

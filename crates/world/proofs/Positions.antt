@@ -1,5 +1,5 @@
 -- The next position of a schedule.
-use Rattle.std.proofs.Common.{◌≡◌, ℕ, zero, suc, ◌+◌, ◌%◌, ◌<◌, ◌≤◌, min, List, length, slice_get, Option, Some, None, Bor, refl, sym, ap, ◌∙◌, subst, arith}
+use Rattle.std.proofs.Common.{◌≡◌, ℕ, zero, suc, ◌%◌, ◌<◌, ◌≤◌, List, length, slice_get, Some, None, Bor, refl, sym, ap, ◌∙◌, arith}
 use Rattle.std.proofs.lemmas.Option.{slice_get_within, slice_get_past}
 use Rattle.rand_pcg.specs.Lcg.{Lcg, next, advance, state_after, next_state, increment_of, started}
 use Rattle.rand_pcg.specs.Pcg.{multiplier_64, pcg32}
@@ -9,7 +9,6 @@ use Rattle.server_core.specs.declared.schedules.Schedule.{Schedule}
 use Rattle.server_core.specs.declared.schedules.Schedule.TheVariants as schedules
 use Rattle.server_core.proofs.Prepares.{slice_none}
 use Rattle.world.specs.Turns.{AtTurn}
-use Rattle.world.specs.declared.picker.Picker.{Picker}
 use Rattle.world.specs.declared.picker.Picker.TheVariants as pickers
 
 -- one step after n

@@ -1,5 +1,5 @@
 -- Deliveries by a schedule, one after another.
-use Rattle.std.proofs.Common.{◌≡◌, ℕ, zero, suc, ◌+◌, ◌-◌, ◌<◌, ◌≤◌, List, [], length, slice_get, Option, Some, None, Result, Ok, Err, refl, sym, ap, ap₂, ◌∙◌, subst, arith}
+use Rattle.std.proofs.Common.{◌≡◌, ℕ, zero, suc, ◌+◌, ◌-◌, ◌<◌, ◌≤◌, List, [], length, slice_get, Option, Some, None, Result, Ok, Err, refl, sym, ap, ap₂, ◌∙◌, arith}
 use Rattle.std.specs.Prelude.{OnErr}
 use Rattle.server_core.specs.Picks.{Progress, delivered, deliver, deliveries, most_entries, position}
 use Rattle.server_core.specs.Runs.{Saying}
@@ -78,15 +78,15 @@ ran_more schedule first w new picker next n k ran at in_flight turn config work 
   work = work ∙ ran.work;
   turn = turn;
   progress =
-    step ∙ ap₂ (λ c v. deliver (says c v) k w.progress) ran.config ran.work
-    ∙ ap (λ j. deliver (says first.config first.work) j w.progress) at
-    ∙ ap (λ (p : Progress). deliver (says first.config first.work) (position schedule n (length p.flight)) p) ran.progress
-    ∙ sym (one_delivery (says first.config first.work) (position schedule) n first.progress);
+      step ∙ ap₂ (λ c v. deliver (says c v) k w.progress) ran.config ran.work
+      ∙ ap (λ j. deliver (says first.config first.work) j w.progress) at
+      ∙ ap (λ (p : Progress). deliver (says first.config first.work) (position schedule n (length p.flight)) p) ran.progress
+      ∙ sym (one_delivery (says first.config first.work) (position schedule) n first.progress);
   entries =
-    let one = one_entry (says w.config w.work) k w.progress in_flight in
-    let more = ap (λ (p : Progress). length p.entries) step in
-    let old = ran.entries in
-    omega (arith, one, more, old);
+      let one = one_entry (says w.config w.work) k w.progress in_flight in
+      let more = ap (λ (p : Progress). length p.entries) step in
+      let old = ran.entries in
+      omega (arith, one, more, old);
 }
 
 pub ran_all : (schedule : Schedule) (first w : Seen) (picker : Picker) (n : ℕ) → Ran schedule first w picker n → w.progress.flight ≡ [] → length w.progress.entries ≤ most_entries w.config w.work

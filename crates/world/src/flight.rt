@@ -1,9 +1,13 @@
 //! Items in a line, of which any can be taken out.
-ghost use Rattle.std.specs.Prelude.{◌≡◌, ◌++◌, ◌∷◌, [], ◌<◌, ◌≤◌, ◌^◌, length, slice_get, Some, IfErr, OnOk, OnErr};
+ghost use Rattle.std.specs.Prelude.{◌≡◌, ◌++◌, ◌∷◌, [], ◌<◌, ◌≤◌, ◌^◌, length, slice_get, Some, ℕ, ◌↔◌, IsTrue, IfSome, IfNone, IfErr, OnOk, OnErr};
 ghost use Rattle.std.specs.List.{remove};
+ghost use Rattle.server_core.specs.declared.messages.Mail.{Mail};
 ghost use Rattle.world.specs.Chunks.{LiesAt, joined};
+ghost use Rattle.world.specs.Replays.{Gives};
 
+use crate::same::is_same;
 use deneva_base::{NoMemory, PushNoMemory};
+use server_core::{Entry, Mail};
 use std::alloc::Global;
 use std::collections::VecDeque;
 use std::marker::Model;
@@ -191,7 +195,11 @@ fn open_last<T: Drop>(alloc: Global, chunks: &mut VecDeque<Chunk<T>>) -> Result<
 }
 
 /// Puts an item at the end of the last chunk.
-fn push_last<T>(alloc: Global, chunks: &mut VecDeque<Chunk<T>>, item: T) -> Result<(), PushNoMemory<T>>
+fn push_last<T>(
+    alloc: Global,
+    chunks: &mut VecDeque<Chunk<T>>,
+    item: T,
+) -> Result<(), PushNoMemory<T>>
     requires { 0 < length chunks.old.items }
     ensures ok { OnOk result (joined chunks.new.items ≡ joined chunks.old.items ++ item ∷ []) }
     ensures err { OnErr result (joined chunks.new.items ≡ joined chunks.old.items) }
@@ -226,4 +234,52 @@ fn close_if_empty<T: Drop>(chunks: &mut VecDeque<Chunk<T>>, number: usize)
     if chunks[number].len() == 0 {
         drop(chunks.remove(number));
     }
+}
+
+/// Whether the entry is of this mail.
+fn gives(mail: &Mail, entry: &Entry) -> bool
+    ensures { IsTrue result ↔ Gives mail.now entry.now }
+{
+    mail.from == entry.from && mail.to == entry.node && is_same(&mail.msg, &entry.msg)
+}
+
+impl Chunk<Mail> {
+    /// The first place whose mail gives this entry.
+    fn position(&self, entry: &Entry) -> Option<usize>
+        ensures some { IfSome result (λ place. (m : Mail) × (slice_get self.now place ≡ Some m) × Gives m entry.now) }
+        ensures none { IfNone result ((place : ℕ) (m : Mail) → slice_get self.now place ≡ Some m → Gives m entry.now → ⊥) }
+    {
+        for place in 0..self.len() {
+            if gives(self.get(place), entry) {
+                return Some(place);
+            }
+        }
+        None
+    }
+}
+
+impl Flight<Mail> {
+    /// The first index whose mail gives this entry. It looks at each mail before it.
+    pub fn position(&self, entry: &Entry) -> Option<usize>
+        ensures some { IfSome result (λ index. (m : Mail) × (slice_get self.now index ≡ Some m) × Gives m entry.now) }
+        ensures none { IfNone result ((index : ℕ) (m : Mail) → slice_get self.now index ≡ Some m → Gives m entry.now → ⊥) }
+    {
+        position_in(&self.chunks, entry)
+    }
+}
+
+fn position_in(chunks: &VecDeque<Chunk<Mail>>, entry: &Entry) -> Option<usize>
+    requires { length (joined chunks.now.items) ≤ 2 ^ 62 }
+    ensures some { IfSome result (λ index. (m : Mail) × (slice_get (joined chunks.now.items) index ≡ Some m) × Gives m entry.now) }
+    ensures none { IfNone result ((index : ℕ) (m : Mail) → slice_get (joined chunks.now.items) index ≡ Some m → Gives m entry.now → ⊥) }
+{
+    let mut before = 0;
+    for number in 0..chunks.len() {
+        let chunk = &chunks[number];
+        if let Some(place) = chunk.position(entry) {
+            return Some(before + place);
+        }
+        before += chunk.len();
+    }
+    None
 }

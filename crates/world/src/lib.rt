@@ -1,11 +1,15 @@
-//! Runs of nodes under any order of deliveries.
+//! Runs of nodes under any order of deliveries: worlds, which hold the nodes of a run with its history and what is in
+//! flight after it.
 #![tactic(auto)]
 
 mod finishing;
 mod flight;
 mod opening;
 mod picker;
+mod same;
 mod settling;
+mod threads;
 mod world;
 
-pub use world::{Finished, World};
+pub use server_core::Schedule;
+pub use world::{Finished, World, run_all};

@@ -1,5 +1,5 @@
 //! Worlds: the nodes of a run with its history and what is in flight.
-ghost use Rattle.std.specs.Prelude.{◌≡◌, ◌<◌, ℕ, [], length, reverse, true, IfOk, OnOk, OnErr};
+ghost use Rattle.std.specs.Prelude.{◌≡◌, ◌<◌, ℕ, List, [], Some, slice_get, IfSome, IfNone, length, reverse, true, IfOk, OnOk, OnErr};
 ghost use Rattle.deneva_base.specs.Partitions.{partition_of};
 ghost use Rattle.deneva_base.specs.Rising.{keys_rise};
 ghost use Rattle.deneva_base.specs.Rows.{row_of};
@@ -7,17 +7,19 @@ ghost use Rattle.deneva_base.specs.declared.keys.Key.{Key};
 ghost use Rattle.txn_program.specs.Valid.{IsValid};
 ghost use Rattle.server_core.specs.Configs.{IsConfig};
 ghost use Rattle.server_core.specs.NodeRows.{rows_of_node};
-ghost use Rattle.server_core.specs.Picks.{begun, deliver, deliveries, most_entries, position};
+ghost use Rattle.server_core.specs.Picks.{begun, deliver, deliveries, most_entries, picked, position};
 ghost use Rattle.server_core.specs.Runs.{heard};
-ghost use Rattle.server_core.specs.Says.{IsRun, says};
-ghost use Rattle.world.specs.Worlds.{HasNodes, IsRunning};
+ghost use Rattle.server_core.specs.Says.{IsQuiet, IsRun, says};
+ghost use Rattle.server_core.specs.declared.messages.Mail.{Mail};
+ghost use Rattle.world.specs.Replays.{Gives};
+ghost use Rattle.world.specs.Worlds.{HasNodes, IsRunning, seen};
 
 use crate::finishing::{gather, in_key_order};
 use crate::flight::Flight;
 use crate::opening::opening;
 use crate::picker::Picker;
 use crate::settling::settle;
-use deneva_base::{Config, NoMemory, RowList};
+use deneva_base::{Config, Items, NoMemory, RowList};
 use server_core::{Entry, History, Mail, Outbox, Schedule, Server};
 use std::alloc::Global;
 use std::marker::Model;
@@ -133,12 +135,14 @@ impl<'w, S: Server<'w>> World<'w, S> {
         node.handle(mail.from, &mail.msg, &mut self.said)?;
         let mail = self.flight.take(k);
         let place = self.history.len() as u64;
-        drop(self.history.push(Entry {
-            place,
-            from: mail.from,
-            node: mail.to,
-            msg: mail.msg,
-        }));
+        drop(
+            self.history.push(Entry {
+                place,
+                from: mail.from,
+                node: mail.to,
+                msg: mail.msg,
+            }),
+        );
         Ok(())
     }
 
@@ -168,6 +172,7 @@ impl<'w, S: Server<'w>> World<'w, S> {
         ensures order { IfOk result (λ f. keys_rise f.rows ≡ true) }
         ensures rows { IfOk result (λ f. (key : Key) → row_of f.rows key ≡ rows_of_node self.entry.config self.entry.work (partition_of key self.entry.config.parts) (heard (partition_of key self.entry.config.parts) self.entry.progress.entries) key) }
         ensures run { IsRunning S.protocol self.entry }
+        ensures quiet { self.entry.progress.flight ≡ [] → IsQuiet self.entry.config self.entry.work self.entry.progress.entries }
     {
         let rows = in_key_order(gather(self.alloc, &self.nodes)?)?;
         Ok(Finished {
@@ -175,4 +180,76 @@ impl<'w, S: Server<'w>> World<'w, S> {
             rows,
         })
     }
+
+    /// Nodes as they stand after a history that is a run of theirs. What is in flight after it is found by delivering its
+    /// mails to other nodes, from the start.
+    pub fn resume(
+        alloc: Global,
+        config: Config,
+        work: &'w Workload,
+        nodes: Items<S>,
+        history: History,
+    ) -> Result<World<'w, S>, NoMemory>
+        requires config { IsConfig config }
+        requires valid { IsValid work.now }
+        requires protocol { config.protocol ≡ S.protocol }
+        requires run { (flight : List Mail) × IsRun config work.now (reverse history) flight }
+        requires nodes { HasNodes S.role S.stands nodes (seen config work.now history []) }
+        ensures config { IfOk result (λ w. w.config ≡ config) }
+        ensures work { IfOk result (λ w. w.work ≡ work.now) }
+        ensures entries { IfOk result (λ w. w.progress.entries ≡ reverse history) }
+    {
+        let mut world: World<'w, S> = World::begin(alloc, config, work)?;
+        world.replay(history.as_slice())?;
+        world.nodes = nodes.into_vec();
+        Ok(world)
+    }
+
+    /// Delivers the mails of a history, from the start.
+    fn replay(&mut self, history: &[Entry]) -> Result<(), NoMemory>
+        requires start { self.old.progress.entries ≡ [] }
+        requires run { (flight : List Mail) × IsRun self.old.config self.old.work (reverse history.now) flight }
+        ensures config { self.new.config ≡ self.old.config }
+        ensures work { self.new.work ≡ self.old.work }
+        ensures entries { OnOk result (self.new.progress.entries ≡ reverse history.now) }
+    {
+        for entry in history {
+            match self.find(entry)? {
+                Some(k) => self.deliver(k)?,
+                None => unreachable!(),
+            }
+        }
+        Ok(())
+    }
+
+    /// The position of the first mail in flight that gives this entry.
+    fn find(&mut self, entry: &Entry) -> Result<Option<usize>, NoMemory>
+        ensures same { self.new ≡ self.old }
+        ensures run { IsRunning S.protocol self.old }
+        ensures some { IfOk result (λ found. IfSome found (λ k. (m : Mail) × (slice_get self.old.progress.flight k ≡ Some m) × Gives m entry.now)) }
+        ensures none { IfOk result (λ found. IfNone found ((k : ℕ) (m : Mail) → slice_get self.old.progress.flight k ≡ Some m → Gives m entry.now → ⊥)) }
+    {
+        settle(&mut self.flight, &mut self.held, &mut self.said)?;
+        Ok(self.flight.position(entry))
+    }
+}
+
+/// The run that a schedule picks, from the start until nothing is in flight.
+pub fn run_all<'w, S: Server<'w>>(
+    alloc: Global,
+    config: Config,
+    work: &'w Workload,
+    schedule: &Schedule,
+) -> Result<World<'w, S>, NoMemory>
+    requires config { IsConfig config }
+    requires valid { IsValid work.now }
+    requires protocol { config.protocol ≡ S.protocol }
+    ensures config { IfOk result (λ w. w.config ≡ config) }
+    ensures work { IfOk result (λ w. w.work ≡ work.now) }
+    ensures entries { IfOk result (λ w. w.progress.entries ≡ picked config work.now schedule.now) }
+    ensures quiet { IfOk result (λ w. w.progress.flight ≡ []) }
+{
+    let mut world: World<'w, S> = World::begin(alloc, config, work)?;
+    world.run(schedule)?;
+    Ok(world)
 }

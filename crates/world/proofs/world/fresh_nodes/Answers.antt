@@ -1,4 +1,4 @@
-use Rattle.std.proofs.Common.{◌≡◌, ◌∷◌, [], ◌+◌, ℕ, List, length, slice_get, Some, length-append, ap, ◌∙◌, arith, rules}
+use Rattle.std.proofs.Common.{◌≡◌, ◌∷◌, [], ◌+◌, List, length, slice_get, length-append, ap, ◌∙◌, arith}
 use Rattle.server_core.specs.Picks.{begun}
 use Rattle.world.specs.Worlds.{Seen, role_in}
 use Rattle.world.proofs.Delivering.{one_node, none_at}

@@ -1,4 +1,4 @@
-use Rattle.std.proofs.Common.{◌≡◌, sym, ap, ◌∙◌, rules, map}
+use Rattle.std.proofs.Common.{◌≡◌, ap, ◌∙◌, rules, map}
 use Rattle.std.specs.List.{remove}
 use Rattle.world.proofs.Joined.{map-remove}
 use Rattle.world.proofs.flight.Chunk.take.Goals as goal

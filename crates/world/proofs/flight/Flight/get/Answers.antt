@@ -1,4 +1,4 @@
-use Rattle.std.proofs.Common.{◌≡◌, length, refl, sym, ap, ◌∙◌, slice_get}
+use Rattle.std.proofs.Common.{length, refl, sym, ap, ◌∙◌, slice_get}
 use Rattle.std.proofs.lemmas.Option.{slice_get_read}
 use Rattle.world.proofs.Joined.{item_at}
 use Rattle.world.proofs.flight.Flight.get.Goals as goal

@@ -1,6 +1,5 @@
 use Rattle.std.proofs.Common.{◌≡◌, slice_get, length, Some, None, refl}
 use Rattle.std.proofs.lemmas.Option.{slice_get_read, slice_get_past}
-use Rattle.world.specs.Turns.{AtTurn}
 use Rattle.world.proofs.Positions.{seeded_turn, listed_some, listed_none}
 use Rattle.world.proofs.picker.Picker.next.Goals as goal
 

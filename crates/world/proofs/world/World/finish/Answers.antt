@@ -1,4 +1,4 @@
-use Rattle.std.proofs.Common.{List, ap, sym, subst, ◌∙◌}
+use Rattle.std.proofs.Common.{List, ap, subst, ◌∙◌}
 use Rattle.deneva_base.specs.Partitions.{partition_of}
 use Rattle.server_core.specs.NodeRows.{rows_of_node}
 use Rattle.server_core.specs.Runs.{heard}

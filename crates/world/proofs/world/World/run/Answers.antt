@@ -1,4 +1,4 @@
-use Rattle.std.proofs.Common.{◌≡◌, ◌<◌, ℕ, suc, List, [], length, refl, sym, ap, ap₂, ◌∙◌, subst, arith, rules}
+use Rattle.std.proofs.Common.{◌≡◌, ◌<◌, suc, length, refl, ap, ◌∙◌, arith, rules}
 use Rattle.std.proofs.lemmas.List.{nil_from_length}
 use Rattle.server_core.specs.Picks.{position}
 use Rattle.world.proofs.AnyRuns.{deliver_run}
@@ -53,9 +53,11 @@ loop-picker-preserved g c =
     let count = c.in_flight-count.ensures.count in
     let k = c.next-k.result in
     let in_flight : k < length w.progress.flight = omega (arith, below, count) in
-    let at : k ≡ position c.args.schedule.now inv.0 (length w.progress.flight) = c.next-k.ensures.picked c.args.schedule.now inv.0 inv.1.turn ∙ ap (position c.args.schedule.now inv.0) count in
-    (suc inv.0, ran_more c.args.schedule.now c.args.self.now w c.deliver.new.self c.loop-picker.picker c.next-k.new.self inv.0 k inv.1 at in_flight
-    (c.next-k.ensures.turn c.args.schedule.now inv.0 inv.1.turn) c.deliver.ensures.config c.deliver.ensures.work c.in_ok-deliver.ensures.ok)
+    let at : k ≡ position c.args.schedule.now inv.0 (length w.progress.flight) = c.next-k.ensures.picked c.args.schedule.now inv.0 inv.1.turn ∙ ap (position c.args.schedule.now inv.0) count in (
+      suc inv.0,
+      ran_more c.args.schedule.now c.args.self.now w c.deliver.new.self c.loop-picker.picker c.next-k.new.self inv.0 k inv.1 at in_flight
+          (c.next-k.ensures.turn c.args.schedule.now inv.0 inv.1.turn) c.deliver.ensures.config c.deliver.ensures.work c.in_ok-deliver.ensures.ok,
+    )
 
 pub returns-in_err-deliver-clause-config : goal.returns-in_err-deliver-clause-config
 returns-in_err-deliver-clause-config g c = c.deliver.ensures.config ∙ c.loop-picker.invariant.1.config
