@@ -12,5 +12,6 @@ mod replies;
 mod saying;
 #[cfg(test)]
 mod tests_leaves;
+mod threads;
 
 pub use coord::Coord;
