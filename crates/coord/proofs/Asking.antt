@@ -1,5 +1,5 @@
 -- A grant and a refusal: the state after it, and what is said.
-use Rattle.std.proofs.Common.{◌≡◌, ◌⊎◌, ℕ, suc, ◌+◌, ◌<◌, ◌≤◌, ◌==◌, List, [], ◌∷◌, ◌++◌, length, map, reverse, slice_get, Bool, true, false, cond, refl, sym, ap, ap₂, ◌∙◌, subst, inl, inr, arith, Option, Some, None}
+use Rattle.std.proofs.Common.{◌≡◌, ℕ, suc, ◌+◌, ◌≤◌, ◌==◌, List, [], ◌∷◌, ◌++◌, length, map, reverse, slice_get, true, refl, sym, ap, ap₂, ◌∙◌, subst, inl, inr, arith, Option, Some, None}
 use Rattle.deneva_base.specs.declared.causes.Bound.{Bound}
 use Rattle.deneva_base.specs.declared.causes.Cause.{Cause}
 use Rattle.deneva_base.specs.declared.keys.Access.{Access}
@@ -13,19 +13,18 @@ use Rattle.deneva_base.specs.Rows.{Row}
 use Rattle.server_core.specs.declared.messages.Mail.{Mail}
 use Rattle.server_core.specs.declared.messages.Msg.{Msg}
 use Rattle.server_core.specs.declared.messages.Msg.TheVariants.{Granted, Refused, Abort}
-use Rattle.server_core.specs.Coordinator.{coordinator, next_ask, prepare_to, effect_of, reads_of, bound_of, asked_parts, to_all, ask_of}
-use Rattle.server_core.specs.Replies.{Reply, Ballot, grants_for, all_voted, all_closed}
+use Rattle.server_core.specs.Coordinator.{coordinator, next_ask, prepare_to, effect_of, reads_of, bound_of, to_all, ask_of}
+use Rattle.server_core.specs.Replies.{Reply, all_voted, all_closed}
 use Rattle.server_core.specs.Setting.{Setting, take_first, parts_of, parts_for}
-use Rattle.server_core.specs.Stamps.{stamp_from, stamped}
 use Rattle.server_core.specs.VotingFits.{AllFit, IsAsking}
 use Rattle.server_core.proofs.Prepares.{slice_some, slice_none}
 use Rattle.coord.specs.Bounds.{bound_with}
 use Rattle.coord.specs.Left.{left_to_vote, left_to_close}
-use Rattle.coord.specs.States.{State, taken, going_on, next_mails, granted, granted_as, granted_mails, mails_as, refused, refused_mails, participants_of, with_left, row_read, asked_of}
-use Rattle.coord.specs.Following.{Heard, heard_of, turns_of, told_to, Asks, Polls, Closes, IsInPhase, IsCurrent, Follows}
+use Rattle.coord.specs.States.{State, taken, going_on, next_mails, granted, granted_as, granted_mails, mails_as, refused, refused_mails, participants_of, row_read, asked_of}
+use Rattle.coord.specs.Following.{Heard, heard_of, turns_of, Asks, IsInPhase, IsCurrent, Follows}
 use Rattle.coord.proofs.Lists.{row_more, some_part, none_voted, none_closed}
 use Rattle.coord.proofs.OneMore.{bound_newest, voted_first, closed_first}
-use Rattle.coord.proofs.Phases.{Met, asks_met}
+use Rattle.coord.proofs.Phases.{asks_met}
 use Rattle.coord.proofs.Turns.{itself}
 
 -- what a message makes of the current attempt of its transaction, and what is said
@@ -136,7 +135,7 @@ module _ (s : Setting) (p : ℕ) (ms : List Msg) (who : Attempt) where
             is = met.is;
             now = met.now;
             follows = goes_on s x (turns_of s p ms x) (turns_of s p (m ∷ ms) x) t (granted s r t) met.now (turn_same t (slice_get t.accesses t.granted)) (accesses_same t (slice_get t.accesses t.granted)) (stamp_same t (slice_get t.accesses t.granted)) (λ n. refl) (λ n. refl)
-            (subst (λ n. IsInPhase s x (turns_of s p (m ∷ ms) x n) (granted s r t)) (sym met.turn) (granted_phase t met.now.accesses stamp met.phase one));
+                (subst (λ n. IsInPhase s x (turns_of s p (m ∷ ms) x n) (granted s r t)) (sym met.turn) (granted_phase t met.now.accesses stamp met.phase one));
             says = granted_says t met.now.accesses stamp met.phase;
           }
         where
@@ -195,7 +194,7 @@ module _ (s : Setting) (p : ℕ) (ms : List Msg) (who : Attempt) where
             is = met.is;
             now = met.now;
             follows = goes_on s x (turns_of s p ms x) (turns_of s p (Refused who key cause ∷ ms) x) t (refused s t) met.now refl refl refl (λ n. refl) (λ n. refl)
-            (subst (λ n. IsInPhase s x (turns_of s p (Refused who key cause ∷ ms) x n) (refused s t)) (sym met.turn)
-            (subst (λ k. IsInPhase s x k (refused s t)) (sym refusal) (refused_phase one t met.now.accesses met.phase)));
+                (subst (λ n. IsInPhase s x (turns_of s p (Refused who key cause ∷ ms) x n) (refused s t)) (sym met.turn)
+                (subst (λ k. IsInPhase s x k (refused s t)) (sym refusal) (refused_phase one t met.now.accesses met.phase)));
             says = ap (to_all p (Abort who)) (sym (asked_same t met.now.accesses met.phase));
           }

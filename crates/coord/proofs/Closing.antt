@@ -1,5 +1,5 @@
 -- A Done and an Undone: the state after it, what is said, and how many transactions are over.
-use Rattle.std.proofs.Common.{◌≡◌, ◌⊎◌, ℕ, suc, ◌+◌, ◌<◌, ◌≤◌, List, [], ◌∷◌, Bool, true, false, cond, not, ◌&&◌, ltb, refl, sym, ap, ◌∙◌, subst, inl, inr, ⊎_elim, arith, Option, Some, None}
+use Rattle.std.proofs.Common.{◌≡◌, ◌⊎◌, ℕ, suc, ◌+◌, ◌<◌, ◌≤◌, List, [], ◌∷◌, Bool, true, false, cond, not, ltb, refl, sym, ap, ◌∙◌, subst, inl, inr, ⊎_elim, arith, Option, Some, None}
 use Rattle.std.proofs.lemmas.Bool.Decides.{nat_tests, eqb_tells}
 use Rattle.deneva_base.specs.declared.numbers.Attempt.{Attempt}
 use Rattle.deneva_base.specs.declared.numbers.Number.{Number}
@@ -9,19 +9,18 @@ use Rattle.server_core.specs.declared.messages.Mail.{Mail}
 use Rattle.server_core.specs.declared.messages.Msg.{Msg}
 use Rattle.server_core.specs.declared.messages.Msg.TheVariants.{Start, Commit, Done, Undone}
 use Rattle.server_core.specs.Coordinator.{coordinator, next_start, overs}
-use Rattle.server_core.specs.Replies.{closes_for, all_closed}
 use Rattle.server_core.specs.Setting.{Setting}
 use Rattle.server_core.specs.VotingFits.{Suits, AllFit}
 use Rattle.server_core.proofs.Conditions.{undone_before}
 use Rattle.server_core.proofs.Origins.{aborted_started}
 use Rattle.server_core.proofs.Starts.{started_turn}
 use Rattle.coord.specs.Left.{left_to_close}
-use Rattle.coord.specs.States.{State, done, done_as, undone, undone_as, if_none_left, next_turn, undone_mails, risen, with_left, without}
-use Rattle.coord.specs.Following.{Heard, heard_of, turns_of, told_to, has_closed, IsPolled, HasDecided, IsAborted, HasEnded, Closes, IsInPhase, IsCurrent, IsShut, Follows}
+use Rattle.coord.specs.States.{State, done, done_as, undone, undone_as, if_none_left, undone_mails, risen, with_left, without}
+use Rattle.coord.specs.Following.{Heard, heard_of, turns_of, told_to, IsPolled, HasDecided, IsAborted, HasEnded, Closes, IsInPhase, IsCurrent, IsShut, Follows}
 use Rattle.coord.proofs.Asking.{Moves, goes_on}
 use Rattle.coord.proofs.Lists.{some_to_close}
 use Rattle.coord.proofs.OneMore.{closed_more, left_none_to_close}
-use Rattle.coord.proofs.Phases.{Met, closes_met}
+use Rattle.coord.proofs.Phases.{closes_met}
 use Rattle.coord.proofs.Turns.{itself, earlier_ended}
 
 module _ (s : Setting) (p : ℕ) (x : TxnId) (ms : List Msg) (fit : AllFit s p ms) where

@@ -36,7 +36,7 @@ pub least_small : {A : Type 0} (f : A → ℕ) (xs : List A) → least_by f xs �
 least_small f [] = omega arith
 least_small f (x ∷ xs) = omega (arith, least_small f xs)
 
--- votes as a node has them, the newest last
+-- the ballots as definitions have them, the newest first
 abbrev back : List Ballot → List replies.Ballot
 back bs = reverse (map ballot_of bs)
 

@@ -1,5 +1,5 @@
 -- What a Done and an Undone change, by whether it is the last.
-use Rattle.std.proofs.Common.{◌≡◌, ℕ, ◌+◌, List, [], ◌∷◌, ◌++◌, Bool, true, false, cond, not, eqb, ltb, refl, sym, ap, ◌∙◌, subst, append-nil, Some, None}
+use Rattle.std.proofs.Common.{◌≡◌, ℕ, ◌+◌, List, [], ◌∷◌, ◌++◌, true, false, cond, not, eqb, ltb, sym, ap, ◌∙◌, subst, append-nil, Some, None}
 use Rattle.std.specs.List.{list_all}
 use Rattle.deneva_base.specs.declared.numbers.Attempt.{Attempt}
 use Rattle.deneva_base.specs.declared.numbers.TxnId.{TxnId}
@@ -7,7 +7,6 @@ use Rattle.server_core.specs.declared.messages.Mail.{Mail}
 use Rattle.server_core.specs.Setting.{Setting}
 use Rattle.coord.specs.declared.coord.Coord.{Coord}
 use Rattle.coord.specs.Moves.{Moved}
-use Rattle.coord.specs.Open.{SetsState}
 use Rattle.coord.specs.States.{State, done, done_as, undone, undone_as, if_none_left, undone_mails, next_turn, risen, with_left, without}
 use Rattle.coord.proofs.Votes.{last_left, more_left}
 

@@ -15,3 +15,4 @@ pub mod Ending
 pub mod Steps
 pub mod Messages
 pub mod Passing
+pub mod Trying

@@ -1,5 +1,5 @@
 -- What a coordinator says on each message, and that it stands for it, where it does with its transaction what is said.
-use Rattle.std.proofs.Common.{◌≡◌, ℕ, suc, ◌+◌, ◌<◌, ◌≤◌, ◌^◌, List, [], ◌∷◌, ◌++◌, length, slice_get, Bool, true, false, cond, not, eqb, ltb, refl, sym, ap, ap₂, ◌∙◌, subst, arith, Option, Some, None}
+use Rattle.std.proofs.Common.{◌≡◌, ℕ, suc, ◌+◌, ◌<◌, ◌≤◌, ◌^◌, List, [], ◌∷◌, ◌++◌, length, slice_get, Bool, true, false, cond, not, ltb, refl, sym, ap, ap₂, ◌∙◌, subst, arith, Option, Some}
 use Rattle.deneva_base.specs.declared.answers.Vote.TheVariants.{Yes as VotesYes, No as VotesNo}
 use Rattle.deneva_base.specs.declared.causes.Cause.{Cause}
 use Rattle.deneva_base.specs.declared.keys.Access.{Access}
@@ -24,17 +24,16 @@ use Rattle.server_core.specs.declared.messages.Msg.TheVariants.{Start, Granted, 
 use Rattle.server_core.proofs.Origins.{started_ids}
 use Rattle.coord.specs.declared.coord.Coord.{Coord}
 use Rattle.coord.specs.Attempts.{setting_at}
-use Rattle.coord.specs.Following.{heard_of, turns_of, Asks}
-use Rattle.coord.specs.Moves.{Moved, Same, stamp_for, started_by, counted_by}
-use Rattle.coord.specs.Open.{state_at, SetsState}
+use Rattle.coord.specs.Moves.{Moved, stamp_for, started_by, counted_by}
+use Rattle.coord.specs.Open.{state_at}
 use Rattle.coord.specs.Placed.{ArePlaced}
 use Rattle.coord.specs.Standing.{role_of, Stands, Coordinates}
 use Rattle.coord.specs.States as states
 use Rattle.coord.specs.States.{State, first_ask, granted_mails, refused_mails, voted_mails, if_none_left, undone_mails, risen, without}
 use Rattle.coord.proofs.Asking.{Moves, granted_moves, refused_moves}
-use Rattle.coord.proofs.Closing.{MovesOn, done_moves, undone_moves}
-use Rattle.coord.proofs.Phases.{Met, asks_met}
-use Rattle.coord.proofs.Steps.{is_valid, is_current, are_placed, suits, few_stamps, few_over, stands_with, start_says_so, start_stands, of_move, raised_few}
+use Rattle.coord.proofs.Closing.{done_moves, undone_moves}
+use Rattle.coord.proofs.Phases.{asks_met}
+use Rattle.coord.proofs.Steps.{are_placed, suits, few_stamps, few_over, stands_with, start_says_so, start_stands, of_move, raised_few}
 use Rattle.coord.proofs.Turns.{touches}
 use Rattle.coord.proofs.Voting.{yes_moves, no_moves}
 

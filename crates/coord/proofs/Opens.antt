@@ -1,5 +1,5 @@
 -- A change at one transaction that leaves its state.
-use Rattle.std.proofs.Common.{◌≡◌, ◌≢◌, ◌⊎◌, List, Bool, true, false, cond, refl, sym, ap, ◌∙◌, ⊎_elim, inl, inr, Option, Some, None}
+use Rattle.std.proofs.Common.{◌≡◌, ◌≢◌, ◌⊎◌, List, true, false, cond, refl, ap, ◌∙◌, ⊎_elim, inl, inr, Some}
 use Rattle.std.specs.Prelude.{option_map}
 use Rattle.std.specs.Map.{lookup}
 use Rattle.std.proofs.lemmas.Bool.Decides.{eqb_tells}
@@ -7,7 +7,6 @@ use Rattle.deneva_base.specs.declared.numbers.TxnId.{TxnId}
 use Rattle.deneva_base.specs.Keys.{id_eq}
 use Rattle.coord.specs.declared.attempts.Attempting.{Attempting}
 use Rattle.coord.specs.Attempts.{state_of}
-use Rattle.coord.specs.States.{State}
 
 pub id_tells : (a b : TxnId) → ((id_eq a b ≡ true) × (a ≡ b)) ⊎ ((id_eq a b ≡ false) × (a ≢ b))
 id_tells a b = ⊎_elim (λ t. inl (t.0, ap (λ n. record { 0 = n }) t.1)) (λ f. inr (f.0, λ e. f.1 (ap (λ (x : TxnId). x.0) e))) (eqb_tells a.0 b.0)

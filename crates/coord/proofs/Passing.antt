@@ -1,12 +1,10 @@
 -- Messages that are not for the coordinator leave it as it is.
-use Rattle.std.proofs.Common.{◌≡◌, ℕ, suc, ◌+◌, ◌^◌, ◌≤◌, List, [], ◌∷◌, ◌++◌, length, Bool, true, false, cond, refl, sym, ap, ◌∙◌, arith, Option, true≢false, append-nil}
-use Rattle.deneva_base.specs.declared.answers.Vote.{Vote}
+use Rattle.std.proofs.Common.{◌≡◌, ℕ, ◌+◌, List, [], ◌∷◌, ◌++◌, Bool, true, false, refl, sym, ap, ◌∙◌, arith, true≢false, append-nil}
 use Rattle.deneva_base.specs.declared.causes.Cause.{Cause}
 use Rattle.deneva_base.specs.declared.keys.Key.{Key}
 use Rattle.deneva_base.specs.declared.numbers.Attempt.{Attempt}
 use Rattle.deneva_base.specs.declared.numbers.Number.{Number}
 use Rattle.deneva_base.specs.declared.numbers.TxnId.{TxnId}
-use Rattle.deneva_base.specs.Keys.{id_eq}
 use Rattle.deneva_base.specs.Rows.{Row}
 use Rattle.server_core.specs.Coordinator.{coordinator, overs}
 use Rattle.server_core.specs.Roles.{FitsRole}
@@ -18,8 +16,7 @@ use Rattle.server_core.specs.declared.messages.Msg.TheVariants.{Start, Ask, Gran
 use Rattle.coord.specs.declared.coord.Coord.{Coord}
 use Rattle.coord.specs.Attempts.{setting_at}
 use Rattle.coord.specs.Open.{state_at}
-use Rattle.coord.specs.Standing.{role_of, Stands, Coordinates, is_call}
-use Rattle.coord.specs.States.{State}
+use Rattle.coord.specs.Standing.{role_of, Coordinates, is_call}
 use Rattle.coord.proofs.Steps.{suits}
 use Rattle.coord.proofs.Turns.{touches, follows_other}
 

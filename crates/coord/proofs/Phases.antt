@@ -1,17 +1,15 @@
 -- In which phase each message meets the attempt that it is of.
-use Rattle.std.proofs.Common.{◌≡◌, ◌⊎◌, ℕ, ◌<◌, List, length, Bool, true, false, eqb, sym, ◌∙◌, subst, inl, inr, ⊎_elim, arith, Option, Some, true≢false}
+use Rattle.std.proofs.Common.{◌≡◌, ◌⊎◌, ℕ, List, true, eqb, sym, ◌∙◌, subst, inl, inr, ⊎_elim, arith, Option, Some, true≢false}
 use Rattle.std.specs.List.{list_any}
-use Rattle.deneva_base.specs.declared.causes.Cause.{Cause}
 use Rattle.deneva_base.specs.declared.keys.Key.{Key}
 use Rattle.deneva_base.specs.declared.keys.Mode.{Mode}
 use Rattle.deneva_base.specs.declared.numbers.Attempt.{Attempt}
 use Rattle.deneva_base.specs.declared.numbers.TxnId.{TxnId}
 use Rattle.deneva_base.specs.Lists.{IsIn}
 use Rattle.server_core.specs.declared.messages.Msg.{Msg}
-use Rattle.server_core.specs.declared.messages.Msg.TheVariants.{Done, Undone}
 use Rattle.server_core.specs.Setting.{Setting, participants}
 use Rattle.server_core.specs.Replies.{Ballot, votes_for, closes_for}
-use Rattle.server_core.specs.VotingFits.{Suits, AllFit, IsAsking, HasAll, HasVoted}
+use Rattle.server_core.specs.VotingFits.{AllFit, IsAsking, HasAll, HasVoted}
 use Rattle.server_core.proofs.Decisions.{asks_no_more}
 use Rattle.server_core.proofs.Ends.{not_all, off_if}
 use Rattle.server_core.proofs.Lines.{closed_there}

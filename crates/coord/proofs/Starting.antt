@@ -1,6 +1,6 @@
 -- A Start: the state after it, and what is said.
 use Rattle.std.proofs.Common.{◌≡◌, ◌⊎◌, ℕ, zero, suc, ◌+◌, ◌*◌, ◌<◌, ◌≤◌, List, [], ◌∷◌, length, reverse, slice_get, Bool, true, false, cond, not, ◌||◌, eqb, refl, sym, ap, ◌∙◌, subst, inl, inr, ⊎_elim, arith, Option, Some, None, true≢false}
-use Rattle.std.proofs.lemmas.Bool.Decides.{nat_tests, eqb_tells}
+use Rattle.std.proofs.lemmas.Bool.Decides.{eqb_tells}
 use Rattle.deneva_base.specs.declared.keys.Access.{Access}
 use Rattle.deneva_base.specs.declared.numbers.Attempt.{Attempt}
 use Rattle.deneva_base.specs.declared.numbers.Number.{Number}
@@ -9,10 +9,10 @@ use Rattle.deneva_base.specs.Keys.{attempt_eq}
 use Rattle.deneva_base.specs.Lists.{IsIn}
 use Rattle.deneva_base.proofs.Words.{attempt_tells}
 use Rattle.server_core.specs.declared.messages.Msg.{Msg}
-use Rattle.server_core.specs.declared.messages.Msg.TheVariants.{Start, Ask, Granted, Refused, Yes, No, Commit, Done, Undone}
+use Rattle.server_core.specs.declared.messages.Msg.TheVariants.{Start, Ask, Yes, No}
 use Rattle.server_core.specs.Coordinator.{coordinator, ask_of, next_ask, reads_of, bound_of}
 use Rattle.server_core.specs.Proper.{Valid}
-use Rattle.server_core.specs.Replies.{Ballot, grants_for, votes_for, refused_for, closes_for, started_for}
+use Rattle.server_core.specs.Replies.{votes_for, started_for}
 use Rattle.server_core.specs.Setting.{Setting}
 use Rattle.server_core.specs.Stamps.{counter, stamp_from, stamped}
 use Rattle.server_core.specs.VotingFits.{Suits, AllFit, AllUndone}
@@ -23,7 +23,7 @@ use Rattle.server_core.proofs.Conditions.{undone_before, not_both}
 use Rattle.server_core.proofs.Ends.{off_if}
 use Rattle.server_core.proofs.Origins.{aborted_started, refused_starts}
 use Rattle.coord.specs.States.{State, begun, kept_stamp}
-use Rattle.coord.specs.Following.{Heard, heard_of, turns_of, Asks, IsInPhase, IsCurrent, IsShut, Follows}
+use Rattle.coord.specs.Following.{Heard, heard_of, turns_of, Asks, IsShut, Follows}
 use Rattle.coord.proofs.Turns.{itself}
 
 -- without a Start there was no vote

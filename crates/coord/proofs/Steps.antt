@@ -1,5 +1,5 @@
 -- What a coordinator may do for a message that fits, and that it stands on after it.
-use Rattle.std.proofs.Common.{◌≡◌, ◌⊎◌, ℕ, suc, ◌+◌, ◌*◌, ◌/◌, ◌^◌, ◌<◌, ◌≤◌, List, [], ◌∷◌, ◌++◌, length, slice_get, Bool, true, false, cond, not, ◌||◌, ◌&&◌, eqb, ltb, refl, sym, ap, ap₂, ◌∙◌, subst, ⊎_elim, arith, Option, Some, None, max}
+use Rattle.std.proofs.Common.{◌≡◌, ℕ, suc, ◌+◌, ◌*◌, ◌^◌, ◌<◌, ◌≤◌, List, [], ◌∷◌, length, slice_get, Bool, true, false, cond, not, ◌||◌, ◌&&◌, eqb, ltb, refl, sym, ap, ◌∙◌, subst, ⊎_elim, arith, Option, Some, None}
 use Rattle.std.proofs.Math.Nat.{div-le_self}
 use Rattle.deneva_base.specs.declared.config.Protocol.{Protocol}
 use Rattle.deneva_base.specs.declared.config.Protocol.TheVariants.{NoWait, WaitDie, Timestamp, Mvcc, Maat, Calvin}
@@ -9,11 +9,10 @@ use Rattle.deneva_base.specs.declared.keys.Access.{Access}
 use Rattle.deneva_base.specs.declared.numbers.Attempt.{Attempt}
 use Rattle.deneva_base.specs.declared.numbers.TxnId.{TxnId}
 use Rattle.deneva_base.specs.Keys.{id_eq}
-use Rattle.deneva_base.specs.Lists.{IsIn}
 use Rattle.deneva_base.specs.Protocols.{chosen}
 use Rattle.txn_program.specs.Serial.{program_of}
 use Rattle.server_core.specs.Configs.{IsVoting}
-use Rattle.server_core.specs.Coordinator.{coordinator, overs, told, next_ask}
+use Rattle.server_core.specs.Coordinator.{coordinator, overs, told}
 use Rattle.server_core.specs.Fits.{FitsBy, suits_under}
 use Rattle.server_core.specs.Proper.{Valid}
 use Rattle.server_core.specs.Replies.{closes_for, all_closed}

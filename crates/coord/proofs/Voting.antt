@@ -1,25 +1,24 @@
 -- A vote: the state after it, and what is said.
-use Rattle.std.proofs.Common.{◌≡◌, ◌⊎◌, ℕ, suc, ◌≤◌, List, [], ◌∷◌, ◌++◌, length, map, filter, reverse, Bool, true, false, cond, refl, sym, ap, ap₂, ◌∙◌, subst, inl, inr, arith, Option, Some, None}
+use Rattle.std.proofs.Common.{◌≡◌, ℕ, List, [], ◌∷◌, ◌++◌, reverse, Bool, refl, sym, ap, ap₂, ◌∙◌, subst, inl, inr, Option, Some, None}
 use Rattle.std.proofs.lemmas.List.{reverse-reverse}
 use Rattle.deneva_base.specs.declared.answers.Vote.TheVariants.{Yes as VotesYes, No as VotesNo}
 use Rattle.deneva_base.specs.declared.causes.Cause.{Cause}
 use Rattle.deneva_base.specs.declared.numbers.Attempt.{Attempt}
 use Rattle.deneva_base.specs.declared.numbers.TxnId.{TxnId}
 use Rattle.deneva_base.specs.Lists.{IsIn}
-use Rattle.server_core.specs.declared.messages.Mail.{Mail}
 use Rattle.server_core.specs.declared.messages.Msg.{Msg}
 use Rattle.server_core.specs.declared.messages.Msg.TheVariants.{Yes, No}
 use Rattle.server_core.specs.Coordinator.{coordinator, decision, first_no, to_all, polled}
-use Rattle.server_core.specs.Replies.{Ballot, votes_for, all_voted, all_closed}
+use Rattle.server_core.specs.Replies.{Ballot, votes_for, all_closed}
 use Rattle.server_core.specs.Setting.{Setting, parts_of, parts_for, participants}
 use Rattle.server_core.specs.VotingFits.{AllFit, HasAll, HasVoted}
 use Rattle.coord.specs.Left.{left_to_vote, left_to_close}
-use Rattle.coord.specs.States.{State, voted, voted_as, voted_mails, verdict_mails, participants_of, with_left, with_ballot, without}
-use Rattle.coord.specs.Following.{Heard, heard_of, turns_of, told_to, Polls, Closes, IsInPhase, IsCurrent, Follows}
+use Rattle.coord.specs.States.{State, voted, voted_as, voted_mails, verdict_mails, participants_of, without}
+use Rattle.coord.specs.Following.{Heard, heard_of, turns_of, told_to, Polls, IsInPhase, Follows}
 use Rattle.coord.proofs.Asking.{Moves, goes_on}
 use Rattle.coord.proofs.Lists.{reverse_more, some_to_vote, none_closed}
 use Rattle.coord.proofs.OneMore.{voted_more, left_none, closed_first}
-use Rattle.coord.proofs.Phases.{Met, votes_met}
+use Rattle.coord.proofs.Phases.{votes_met}
 use Rattle.coord.proofs.Turns.{itself}
 
 abbrev with_vote : Ballot → Heard → Heard
@@ -91,7 +90,7 @@ module _ (s : Setting) (p : ℕ) (ms : List Msg) (who : Attempt) (b : Ballot) (t
           is = met.is;
           now = met.now;
           follows = goes_on s x (turns_of s p ms x) (turns_of s p (m ∷ ms) x) t (voted s b t) met.now (turn_same t met.now.accesses met.phase (without b.part t.left)) (accesses_same t met.now.accesses met.phase (without b.part t.left)) (stamp_same t met.now.accesses met.phase (without b.part t.left)) started stamps
-          (subst (λ n. IsInPhase s x (turns_of s p (m ∷ ms) x n) (voted s b t)) (sym met.turn) (subst (λ k. IsInPhase s x k (voted s b t)) (sym more) phase));
+              (subst (λ n. IsInPhase s x (turns_of s p (m ∷ ms) x n) (voted s b t)) (sym met.turn) (subst (λ k. IsInPhase s x k (voted s b t)) (sym more) phase));
           says = says' ∙ says_with t met.now.accesses met.phase (left_to_vote (b ∷ h.votes) qs) refl ∙ ap (verdict_mails s p who b t) (sym left);
         }
 

@@ -1,7 +1,6 @@
 -- How the state that is kept for a transaction follows from the messages that were handled: it is that of the current
 -- attempt while the transaction is started and not over.
-use Rattle.std.specs.Prelude.{◌≡◌, ◌⊎◌, ℕ, suc, ◌+◌, ◌^◌, ◌<◌, ◌≤◌, List, [], ◌∷◌, length, reverse, filter, Bool, true, false, cond, not, eqb, Option, Some, None}
-use Rattle.deneva_base.specs.declared.causes.Bound.{Bound}
+use Rattle.std.specs.Prelude.{◌≡◌, ◌⊎◌, ℕ, suc, ◌<◌, ◌≤◌, List, [], length, reverse, Bool, true, false, cond, Option, Some, None}
 use Rattle.deneva_base.specs.declared.numbers.Attempt.{Attempt}
 use Rattle.deneva_base.specs.declared.numbers.Number.{Number}
 use Rattle.deneva_base.specs.declared.numbers.TxnId.{TxnId}

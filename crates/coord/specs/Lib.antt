@@ -10,3 +10,4 @@ pub mod Prepares
 pub mod Open
 pub mod Moves
 pub mod Standing
+pub mod Trials

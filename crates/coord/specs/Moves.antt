@@ -1,5 +1,5 @@
 -- What a message changes of a coordinator.
-use Rattle.std.specs.Prelude.{◌≡◌, ℕ, ◌+◌, ◌*◌, List, Bool, cond, not, ◌||◌, eqb, Option, Some}
+use Rattle.std.specs.Prelude.{◌≡◌, ℕ, ◌+◌, ◌*◌, Bool, cond, not, ◌||◌, eqb, Option}
 use Rattle.deneva_base.specs.declared.numbers.Attempt.{Attempt}
 use Rattle.deneva_base.specs.declared.numbers.TxnId.{TxnId}
 use Rattle.coord.specs.declared.coord.Coord.{Coord}

@@ -1,6 +1,5 @@
 -- The current attempt of a transaction at its home, and what each message makes of it.
 use Rattle.std.specs.Prelude.{ℕ, suc, ◌+◌, ◌==◌, List, [], ◌∷◌, ◌++◌, map, filter, slice_get, reverse, Bool, cond, not, eqb, ltb, Option, Some, None}
-use Rattle.std.specs.List.{list_any}
 use Rattle.deneva_base.specs.declared.keys.Access.{Access}
 use Rattle.deneva_base.specs.declared.causes.Bound.{Bound}
 use Rattle.deneva_base.specs.declared.numbers.Attempt.{Attempt}

@@ -66,7 +66,14 @@ impl Attempting {
     }
 
     /// Takes in the reply to an access.
-    fn take(&mut self, alloc: Global, access: Access, key: Key, row: &Row, bound: u64) -> Result<(), NoMemory>
+    fn take(
+        &mut self,
+        alloc: Global,
+        access: Access,
+        key: Key,
+        row: &Row,
+        bound: u64,
+    ) -> Result<(), NoMemory>
         requires { self.old.granted < 2 ^ 63 }
         ensures ok { OnOk result (state_of self.new ≡ taken access (record { row = row.now; bound = bound; key = key }) (state_of self.old)) }
         ensures err { OnErr result (state_of self.new ≡ state_of self.old) }
@@ -108,7 +115,16 @@ impl Attempting {
         let parts = parts_of(home.alloc, home.config.parts, self.accesses.as_slice())?;
         let program = program_at(home.work, who.txn);
         let effect = effect_of(home.alloc, &home.work.load, who.txn, program, &self.rows)?;
-        say_prepares(home.alloc, out, home.config.parts, home.part, who, self.bound, &effect, &parts)?;
+        say_prepares(
+            home.alloc,
+            out,
+            home.config.parts,
+            home.part,
+            who,
+            self.bound,
+            &effect,
+            &parts,
+        )?;
         self.left = parts;
         Ok(())
     }
@@ -130,7 +146,15 @@ impl Attempting {
     }
 
     /// The access that it asked for is granted.
-    pub fn granted(&mut self, home: &Home, who: Attempt, key: Key, row: &Row, bound: u64, out: &mut Outbox) -> Result<(), NoMemory>
+    pub fn granted(
+        &mut self,
+        home: &Home,
+        who: Attempt,
+        key: Key,
+        row: &Row,
+        bound: u64,
+        out: &mut Outbox,
+    ) -> Result<(), NoMemory>
         requires id { IsIn who.txn (all_ids home.now.work.now) }
         requires placed { ArePlaced self.old.accesses }
         ensures ok { OnOk result (state_of self.new ≡ states.granted (setting_at home.now) (record { row = row.now; bound = bound; key = key }) (state_of self.old)) }
@@ -201,7 +225,13 @@ impl Attempting {
     }
 
     /// A participant votes: the last vote decides.
-    pub fn voted(&mut self, home: &Home, who: Attempt, ballot: Ballot, out: &mut Outbox) -> Result<(), NoMemory>
+    pub fn voted(
+        &mut self,
+        home: &Home,
+        who: Attempt,
+        ballot: Ballot,
+        out: &mut Outbox,
+    ) -> Result<(), NoMemory>
         requires placed { ArePlaced self.old.accesses }
         ensures ok { OnOk result (state_of self.new ≡ states.voted (setting_at home.now) (ballot_of ballot) (state_of self.old)) }
         ensures said { OnOk result (out.new.mails ≡ out.old.mails ++ voted_mails (setting_at home.now) home.now.part who (ballot_of ballot) (state_of self.old)) }

@@ -46,7 +46,13 @@ pub struct Coord<'w> {
 
 impl<'w> Coord<'w> {
     /// A coordinator that has handled nothing. The first transactions begin by Starts that come from outside.
-    pub fn begin(alloc: Global, config: Config, part: u8, fixed: bool, work: &'w Workload) -> Result<Coord<'w>, NoMemory>
+    pub fn begin(
+        alloc: Global,
+        config: Config,
+        part: u8,
+        fixed: bool,
+        work: &'w Workload,
+    ) -> Result<Coord<'w>, NoMemory>
         requires config { IsConfig config }
         requires valid { IsValid work.now }
         requires part { part < config.parts }
@@ -106,7 +112,10 @@ impl<'w> Coord<'w> {
         let first = *accesses.get(0);
         out.reserve(1)?;
         let counter = self.counter + u64::from(self.draws(who));
-        self.open.put(who.txn, Attempting::new(home.alloc, who.turn, stamp, accesses))?;
+        self.open.put(
+            who.txn,
+            Attempting::new(home.alloc, who.turn, stamp, accesses),
+        )?;
         self.counter = counter;
         out.put(ask_mail(home.config.parts, home.part, who, stamp, first));
         Ok(())
@@ -215,11 +224,13 @@ impl<'w> Coord<'w> {
             Msg::Refused { who, cause, .. } => self.refused(*who, cause, out),
             Msg::Yes { who, part, lo, hi } => {
                 let vote = Vote::Yes { lo: *lo, hi: *hi };
-                self.open.voted(&self.home, *who, Ballot { part: *part, vote }, out)
+                self.open
+                    .voted(&self.home, *who, Ballot { part: *part, vote }, out)
             }
             Msg::No { who, part, cause } => {
                 let vote = Vote::No(*cause);
-                self.open.voted(&self.home, *who, Ballot { part: *part, vote }, out)
+                self.open
+                    .voted(&self.home, *who, Ballot { part: *part, vote }, out)
             }
             Msg::Done { who, part } => self.done(*who, *part, out),
             Msg::Undone { who, part } => self.undone(*who, *part, out),

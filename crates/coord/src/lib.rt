@@ -11,6 +11,9 @@ mod partitions;
 mod replies;
 mod saying;
 #[cfg(test)]
+mod tests;
+#[cfg(test)]
 mod tests_leaves;
+mod threads;
 
 pub use coord::Coord;

@@ -61,7 +61,15 @@ impl OpenTxns {
     }
 
     /// The access that the attempt asked for is granted.
-    pub fn granted(&mut self, home: &Home, who: Attempt, key: Key, row: &Row, bound: u64, out: &mut Outbox) -> Result<(), NoMemory>
+    pub fn granted(
+        &mut self,
+        home: &Home,
+        who: Attempt,
+        key: Key,
+        row: &Row,
+        bound: u64,
+        out: &mut Outbox,
+    ) -> Result<(), NoMemory>
         requires id { IsIn who.txn (all_ids home.now.work.now) }
         requires placed { WithState self.old who.txn (λ t. ArePlaced t.accesses) }
         ensures ok { OnOk result (WithState self.old who.txn (λ t. SetsState self.old who.txn (Some (states.granted (setting_at home.now) (record { row = row.now; bound = bound; key = key }) t)) self.new)) }
@@ -91,7 +99,13 @@ impl OpenTxns {
     }
 
     /// A participant votes.
-    pub fn voted(&mut self, home: &Home, who: Attempt, ballot: Ballot, out: &mut Outbox) -> Result<(), NoMemory>
+    pub fn voted(
+        &mut self,
+        home: &Home,
+        who: Attempt,
+        ballot: Ballot,
+        out: &mut Outbox,
+    ) -> Result<(), NoMemory>
         requires placed { WithState self.old who.txn (λ t. ArePlaced t.accesses) }
         ensures ok { OnOk result (WithState self.old who.txn (λ t. SetsState self.old who.txn (Some (states.voted (setting_at home.now) (ballot_of ballot) t)) self.new)) }
         ensures said { OnOk result (WithState self.old who.txn (λ t. out.new.mails ≡ out.old.mails ++ voted_mails (setting_at home.now) home.now.part who (ballot_of ballot) t)) }

@@ -1,4 +1,4 @@
-use Rattle.std.proofs.Common.{◌≡◌, ◌++◌, ◌∙◌, ◌<◌, refl, sym, ap, arith, subst, slice_get, get_or, length}
+use Rattle.std.proofs.Common.{◌++◌, ◌∙◌, ◌<◌, refl, sym, ap, arith, subst, length}
 use Rattle.std.proofs.lemmas.Option.{slice_get_past, get_or_from_slice_get}
 use Rattle.std.proofs.lemmas.Result.{on_ok_weaker}
 use Rattle.deneva_base.specs.declared.keys.Access.{Access}

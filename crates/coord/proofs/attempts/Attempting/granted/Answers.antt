@@ -1,4 +1,4 @@
-use Rattle.std.proofs.Common.{◌≡◌, ◌++◌, ◌∙◌, refl, sym, ap, append-nil, arith, slice_get, None}
+use Rattle.std.proofs.Common.{◌++◌, ◌∙◌, refl, sym, ap, append-nil, arith}
 use Rattle.std.proofs.lemmas.Option.{slice_get_past}
 use Rattle.coord.specs.Attempts.{state_of, setting_at}
 use Rattle.coord.specs.States.{mails_as}

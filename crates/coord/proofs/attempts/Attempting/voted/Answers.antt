@@ -1,11 +1,8 @@
-use Rattle.std.proofs.Common.{rules, ◌≡◌, ◌++◌, ◌∷◌, [], ◌∙◌, List, map, sym, ap, ap₂, eqb, true, false, arith}
-use Rattle.std.specs.List.{list_all}
+use Rattle.std.proofs.Common.{rules, ◌≡◌, ◌++◌, ◌∙◌, map, ap, ap₂, arith}
 use Rattle.std.proofs.lemmas.Grind.{common_steps}
-use Rattle.server_core.specs.Replies as replies
-use Rattle.coord.specs.declared.ballots.Ballot.{Ballot}
 use Rattle.coord.specs.Attempts.{state_of, setting_at}
 use Rattle.coord.specs.Ballots.{ballot_of}
-use Rattle.coord.specs.States.{State, decision_mails, with_ballot, with_left, participants_of, without}
+use Rattle.coord.specs.States.{State, decision_mails, participants_of}
 use Rattle.coord.proofs.Votes.{voted_on, voted_last, quiet_on, told_last, ballots_more, with_ballots}
 use Rattle.coord.proofs.attempts.Attempting.voted.Goals as goal
 

@@ -115,4 +115,3 @@ returns-in_default c =
       same_mails = tt;
       same = tt;
     }
-
