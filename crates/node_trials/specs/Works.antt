@@ -5,7 +5,10 @@ use Rattle.deneva_base.specs.declared.rows.Keyed.{Keyed}
 use Rattle.deneva_base.specs.declared.config.Protocol.{Protocol}
 use Rattle.deneva_base.specs.declared.numbers.Attempt.{Attempt}
 use Rattle.server_core.specs.Roles.{Role}
-use Rattle.server_core.specs.declared.messages.Msg.TheVariants.{Start, Granted}
+use Rattle.server_core.specs.declared.messages.Msg.{Msg}
+use Rattle.server_core.specs.declared.messages.Msg.TheVariants.{Start, Granted, Refused, Yes, No, Done, Undone}
+use Rattle.deneva_base.specs.declared.causes.Cause.{Cause}
+use Rattle.deneva_base.specs.declared.causes.Cause.TheVariants.{Held}
 use Rattle.node_trials.specs.declared.steps.Step.{Step}
 use Rattle.txn_program.specs.Transactions.{ycsb_key}
 use Rattle.txn_program.specs.declared.programs.Program.TheVariants.{Ycsb}
@@ -37,3 +40,29 @@ granted_step from n = record { from = from; msg = Granted first_attempt (ycsb_ke
 
 abbrev pub asked_steps : List Step
 asked_steps = record { from = 0; msg = Start first_attempt } ∷ granted_step 0 0 ∷ granted_step 1 1 ∷ granted_step 0 2 ∷ []
+
+abbrev pub from : ℕ → Msg → Step
+from part msg = record { from = part; msg = msg }
+
+abbrev pub held : Cause
+held = Held (ycsb_key 0) (record { txn = record { 0 = 3 }; turn = 1 })
+
+-- the windows meet from 5 to 9
+abbrev pub meeting_steps : List Step
+meeting_steps = from 0 (Yes first_attempt 0 1 9) ∷ from 1 (Yes first_attempt 1 5 12) ∷ from 0 (Done first_attempt 0) ∷ from 1 (Done first_attempt 1) ∷ []
+
+-- they do not; then the second attempt starts
+abbrev pub apart_steps : List Step
+apart_steps =
+    from 0 (Yes first_attempt 0 1 4) ∷ from 1 (Yes first_attempt 1 5 9) ∷ from 0 (Undone first_attempt 0) ∷ from 1 (Undone first_attempt 1)
+    ∷ from 0 (Start (record { txn = record { 0 = 1 }; turn = 2 })) ∷ []
+
+abbrev pub one_no_steps : List Step
+one_no_steps = from 0 (Yes first_attempt 0 1 9) ∷ from 1 (No first_attempt 1 held) ∷ []
+
+abbrev pub two_noes_steps : List Step
+two_noes_steps = from 0 (No first_attempt 0 held) ∷ from 1 (No first_attempt 1 held) ∷ []
+
+-- the third access is refused
+abbrev pub refused_steps : List Step
+refused_steps = from 0 (Start first_attempt) ∷ granted_step 0 0 ∷ granted_step 1 1 ∷ from 0 (Refused first_attempt (ycsb_key 2) held) ∷ []

@@ -2,15 +2,16 @@
 ghost use Rattle.std.specs.Prelude.{◌≡◌, ◌++◌, ◌∷◌, [], IfOk};
 ghost use Rattle.deneva_base.specs.declared.config.Protocol.TheVariants.{NoWait, WaitDie};
 ghost use Rattle.node_trials.specs.Trials.{FitInTurn};
-ghost use Rattle.node_trials.specs.Works.{trial_role, granted_step, asked_steps};
+ghost use Rattle.node_trials.specs.Works.{trial_role, granted_step, asked_steps, held, refused_steps};
 
 use crate::steps::{Step, tell};
 use crate::works::{row, work};
-use deneva_base::{Attempt, Config, NoMemory, Number, Protocol, TxnId};
+use deneva_base::{Attempt, Cause, Config, NoMemory, Number, Protocol, TxnId};
 use lock_control::Locks;
 use node_core::Node;
 use server_core::{Msg, Outbox, Server};
 use std::alloc::Global;
+use txn_program::ycsb_key_of;
 
 /// The first attempt of transaction 1.
 pub(crate) const WHO: Attempt = Attempt {
@@ -81,5 +82,28 @@ pub(crate) fn asked(alloc: Global, more: Vec<Step>) -> Result<Vec<Step>, NoMemor
     steps.push(granted(alloc, 1, 1)?)?;
     steps.push(granted(alloc, 0, 2)?)?;
     steps.append(&mut more)?;
+    Ok(steps)
+}
+
+/// Transaction 1 is started and granted two accesses; the third is refused.
+pub(crate) fn refused(alloc: Global, cause: Cause) -> Result<Vec<Step>, NoMemory>
+    ensures { IfOk result (λ steps. cause ≡ held → steps.items ≡ refused_steps) }
+{
+    let key = ycsb_key_of(2);
+    let mut steps = Vec::new(alloc);
+    steps.push(Step {
+        from: 0,
+        msg: Msg::Start { who: WHO },
+    })?;
+    steps.push(granted(alloc, 0, 0)?)?;
+    steps.push(granted(alloc, 1, 1)?)?;
+    steps.push(Step {
+        from: 0,
+        msg: Msg::Refused {
+            who: WHO,
+            key,
+            cause,
+        },
+    })?;
     Ok(steps)
 }
