@@ -1,0 +1,17 @@
+pub mod Turns
+pub mod Phases
+pub mod Lists
+pub mod Asking
+pub mod Voting
+pub mod Closing
+pub mod Starting
+pub mod Deciding
+pub mod OneMore
+pub mod Places
+pub mod Placing
+pub mod Votes
+pub mod Opens
+pub mod Ending
+pub mod Steps
+pub mod Messages
+pub mod Passing

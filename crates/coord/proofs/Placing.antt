@@ -1,0 +1,56 @@
+-- Every key of a transaction has a partition.
+use Rattle.std.proofs.Common.{ℕ, zero, suc, ◌≡◌, take, ap, List, [], ◌∷◌, map, refl, inl, arith}
+use Rattle.std.specs.List.{All, cons_option, filter_map}
+use Rattle.std.proofs.lemmas.List.Elements.{All-cons}
+use Rattle.deneva_base.specs.declared.keys.Access.{Access}
+use Rattle.deneva_base.specs.declared.numbers.TxnId.{TxnId}
+use Rattle.deneva_base.specs.declared.rows.Keyed.{Keyed}
+use Rattle.txn_program.specs.Transactions.{accesses, access_of, effect, written, written_to, ycsb_key}
+use Rattle.txn_program.specs.declared.programs.Load.{Load}
+use Rattle.txn_program.specs.declared.programs.Program.{Program}
+use Rattle.txn_program.specs.declared.programs.Program.TheVariants.{Ycsb}
+use Rattle.txn_program.specs.declared.programs.YcsbAct.{YcsbAct}
+use Rattle.txn_program.specs.declared.programs.YcsbAct.TheVariants.{Read, Update, Put}
+use Rattle.txn_program.specs.declared.programs.YcsbStep.{YcsbStep}
+use Rattle.server_core.specs.Setting.{take_first}
+use Rattle.coord.specs.Placed.{IsPlaced, ArePlaced, RowsArePlaced}
+
+no_more : {A : Type 0} (P : A → Type 0) → All P []
+no_more P k d less = absurd (omega (arith, less))
+
+ycsb_placed : (n : ℕ) → IsPlaced (ycsb_key n)
+ycsb_placed n = (omega arith, inl refl)
+
+pub accesses_placed : (load : Load) (program : Program) → ArePlaced (accesses load program)
+accesses_placed load (Ycsb steps) = go steps
+  where
+    go : (steps : List YcsbStep) → ArePlaced (map access_of steps)
+    go [] = no_more (λ (a : Access). IsPlaced a.key)
+    go (s ∷ more) = All-cons (λ (a : Access). IsPlaced a.key) (access_of s) (map access_of more) (ycsb_placed s.key) (go more)
+
+pub writes_placed : (load : Load) (id : TxnId) (program : Program) (rows : List Keyed) → RowsArePlaced (effect load id program rows).writes
+writes_placed load id (Ycsb steps) rows = go steps
+  where
+    one : (n : ℕ) (act : YcsbAct) (ws : List Keyed) → RowsArePlaced ws → RowsArePlaced (cons_option (written_to rows (ycsb_key n) act) ws)
+    one n Read ws some = some
+    one n (Update put) ws some = All-cons (λ (w : Keyed). IsPlaced w.key) _ ws (ycsb_placed n) some
+    one n (Put row) ws some = All-cons (λ (w : Keyed). IsPlaced w.key) _ ws (ycsb_placed n) some
+
+    go : (steps : List YcsbStep) → RowsArePlaced (filter_map (written rows) steps)
+    go [] = no_more (λ (w : Keyed). IsPlaced w.key)
+    go (s ∷ more) = one s.key s.act (filter_map (written rows) more) (go more)
+
+pub appends_placed : (load : Load) (id : TxnId) (program : Program) (rows : List Keyed) → RowsArePlaced (effect load id program rows).appends
+appends_placed load id (Ycsb steps) rows = no_more (λ (w : Keyed). IsPlaced w.key)
+
+-- the accesses asked so far
+pub first_ones : {A : Type 0} (n : ℕ) (xs : List A) → take_first n xs ≡ take n xs
+first_ones zero xs = refl
+first_ones (suc n) [] = refl
+first_ones (suc n) (x ∷ xs) = ap (λ l. x ∷ l) (first_ones n xs)
+
+pub first_placed : (n : ℕ) (list : List Access) → ArePlaced list → ArePlaced (take n list)
+first_placed zero list all = no_more (λ (a : Access). IsPlaced a.key)
+first_placed (suc n) [] all = no_more (λ (a : Access). IsPlaced a.key)
+first_placed (suc n) (a ∷ list) all =
+    All-cons (λ (x : Access). IsPlaced x.key) a (take n list) (all 0 a (omega arith)) (first_placed n list (λ k d less. all (suc k) d (omega (arith, less))))

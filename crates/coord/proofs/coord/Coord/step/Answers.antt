@@ -1,0 +1,117 @@
+use Rattle.std.proofs.Common.{refl}
+use Rattle.std.proofs.lemmas.Result.{on_ok_weaker}
+use Rattle.coord.specs.Open.{state_at}
+use Rattle.coord.proofs.Messages.{open_placed, stamps_few, next_few, start_id, start_says, start_stands_for, granted_id, granted_says, granted_stands, refused_small, refused_more, refused_says, refused_stands, yes_says, yes_stands, no_says, no_stands, done_says, done_stands, undone_says, undone_stands}
+use Rattle.coord.proofs.Passing.{other_kind, quiet_says, quiet_stands}
+use Rattle.coord.proofs.coord.Coord.step.Goals as goal
+
+pub start-requires-clause-id : goal.start-requires-clause-id
+start-requires-clause-id c =
+    let f = c.requires.fits in start_id c.args.self.now f.1.0 f.1.1.0 c.args.msg.now f.0 f.1.1.1 c.in-Start.who c.in-Start.is
+
+pub start-requires-clause-counter : goal.start-requires-clause-counter
+start-requires-clause-counter c =
+    let f = c.requires.fits in stamps_few c.args.self.now f.1.0 f.1.1.0 c.args.msg.now f.0 f.1.1.1
+
+pub granted-requires-clause-id : goal.granted-requires-clause-id
+granted-requires-clause-id c =
+    let f = c.requires.fits in granted_id c.args.self.now f.1.0 f.1.1.0 c.args.msg.now f.0 f.1.1.1 c.in-Granted.who c.in-Granted.key c.in-Granted.row c.in-Granted.version c.in-Granted.bound c.in-Granted.is
+
+pub granted-requires-clause-placed : goal.granted-requires-clause-placed
+granted-requires-clause-placed c =
+    let f = c.requires.fits in open_placed c.args.self.now f.1.0 f.1.1.0 c.in-Granted.who.txn
+
+pub refused-requires-clause-small : goal.refused-requires-clause-small
+refused-requires-clause-small c =
+    let f = c.requires.fits in refused_small c.args.self.now f.1.0 f.1.1.0 c.args.msg.now f.0 f.1.1.1 c.in-Refused.who c.in-Refused.key c.in-Refused.cause c.in-Refused.is
+
+pub refused-requires-clause-placed : goal.refused-requires-clause-placed
+refused-requires-clause-placed c =
+    let f = c.requires.fits in open_placed c.args.self.now f.1.0 f.1.1.0 c.in-Refused.who.txn
+
+pub refused-requires-clause-more : goal.refused-requires-clause-more
+refused-requires-clause-more c =
+    let f = c.requires.fits in refused_more c.args.self.now f.1.0 f.1.1.0 c.args.msg.now f.0 f.1.1.1 c.in-Refused.who c.in-Refused.key c.in-Refused.cause c.in-Refused.is
+
+pub voted-requires : goal.voted-requires
+voted-requires c =
+    let f = c.requires.fits in record { placed = open_placed c.args.self.now f.1.0 f.1.1.0 c.in-Yes.who.txn }
+
+pub voted-requires-in-No : goal.voted-requires-in-No
+voted-requires-in-No c =
+    let f = c.requires.fits in record { placed = open_placed c.args.self.now f.1.0 f.1.1.0 c.in-No.who.txn }
+
+pub done-requires : goal.done-requires
+done-requires c =
+    let f = c.requires.fits in record { next = next_few c.args.self.now f.1.0 f.1.1.0 c.args.msg.now f.0 f.1.1.1 }
+
+pub undone-requires : goal.undone-requires
+undone-requires c =
+    let f = c.requires.fits in record { next = next_few c.args.self.now f.1.0 f.1.1.0 c.args.msg.now f.0 f.1.1.1 }
+
+pub returns-in-Start-clause-says : goal.returns-in-Start-clause-says
+returns-in-Start-clause-says c =
+    on_ok_weaker c.start.result (λ e from ms co fits. start_says c.args.self.now ms co c.args.msg.now from fits c.in-Start.who c.in-Start.is c.args.out.now.mails c.start.new.out.mails e) c.start.ensures.said
+
+pub returns-in-Start-clause-stands : goal.returns-in-Start-clause-stands
+returns-in-Start-clause-stands c =
+    on_ok_weaker c.start.result (λ e from ms co fits. start_stands_for c.args.self.now ms co c.args.msg.now from fits c.in-Start.who c.in-Start.is c.start.new.self e) c.start.ensures.ok
+
+pub returns-in-Granted-clause-says : goal.returns-in-Granted-clause-says
+returns-in-Granted-clause-says c =
+    on_ok_weaker c.granted.result (λ e from ms co fits. granted_says c.args.self.now ms co c.args.msg.now from fits c.in-Granted.who c.in-Granted.key c.in-Granted.row c.in-Granted.version c.in-Granted.bound c.in-Granted.is c.args.out.now.mails c.granted.new.out.mails e) c.granted.ensures.said
+
+pub returns-in-Granted-clause-stands : goal.returns-in-Granted-clause-stands
+returns-in-Granted-clause-stands c =
+    on_ok_weaker c.granted.result (λ e from ms co fits. granted_stands c.args.self.now ms co c.args.msg.now from fits c.in-Granted.who c.in-Granted.key c.in-Granted.row c.in-Granted.version c.in-Granted.bound c.in-Granted.is (state_at c.granted.new.self) e) c.granted.ensures.ok
+
+pub returns-in-Refused-clause-says : goal.returns-in-Refused-clause-says
+returns-in-Refused-clause-says c =
+    on_ok_weaker c.refused.result (λ e from ms co fits. refused_says c.args.self.now ms co c.args.msg.now from fits c.in-Refused.who c.in-Refused.key c.in-Refused.cause c.in-Refused.is c.args.out.now.mails c.refused.new.out.mails e) c.refused.ensures.said
+
+pub returns-in-Refused-clause-stands : goal.returns-in-Refused-clause-stands
+returns-in-Refused-clause-stands c =
+    on_ok_weaker c.refused.result (λ e from ms co fits. refused_stands c.args.self.now ms co c.args.msg.now from fits c.in-Refused.who c.in-Refused.key c.in-Refused.cause c.in-Refused.is c.refused.new.self e) c.refused.ensures.ok
+
+pub returns-in-Yes-clause-says : goal.returns-in-Yes-clause-says
+returns-in-Yes-clause-says c =
+    on_ok_weaker c.voted.result (λ e from ms co fits. yes_says c.args.self.now ms co c.args.msg.now from fits c.in-Yes.who c.in-Yes.part c.in-Yes.lo c.in-Yes.hi c.in-Yes.is c.args.out.now.mails c.voted.new.out.mails e) c.voted.ensures.said
+
+pub returns-in-Yes-clause-stands : goal.returns-in-Yes-clause-stands
+returns-in-Yes-clause-stands c =
+    on_ok_weaker c.voted.result (λ e from ms co fits. yes_stands c.args.self.now ms co c.args.msg.now from fits c.in-Yes.who c.in-Yes.part c.in-Yes.lo c.in-Yes.hi c.in-Yes.is (state_at c.voted.new.self) e) c.voted.ensures.ok
+
+pub returns-in-No-clause-says : goal.returns-in-No-clause-says
+returns-in-No-clause-says c =
+    on_ok_weaker c.voted-in-No.result (λ e from ms co fits. no_says c.args.self.now ms co c.args.msg.now from fits c.in-No.who c.in-No.part c.in-No.cause c.in-No.is c.args.out.now.mails c.voted-in-No.new.out.mails e) c.voted-in-No.ensures.said
+
+pub returns-in-No-clause-stands : goal.returns-in-No-clause-stands
+returns-in-No-clause-stands c =
+    on_ok_weaker c.voted-in-No.result (λ e from ms co fits. no_stands c.args.self.now ms co c.args.msg.now from fits c.in-No.who c.in-No.part c.in-No.cause c.in-No.is (state_at c.voted-in-No.new.self) e) c.voted-in-No.ensures.ok
+
+pub returns-in-Done-clause-says : goal.returns-in-Done-clause-says
+returns-in-Done-clause-says c =
+    on_ok_weaker c.done.result (λ e from ms co fits. done_says c.args.self.now ms co c.args.msg.now from fits c.in-Done.who c.in-Done.part c.in-Done.is c.args.out.now.mails c.done.new.out.mails e) c.done.ensures.said
+
+pub returns-in-Done-clause-stands : goal.returns-in-Done-clause-stands
+returns-in-Done-clause-stands c =
+    on_ok_weaker c.done.result (λ e from ms co fits. done_stands c.args.self.now ms co c.args.msg.now from fits c.in-Done.who c.in-Done.part c.in-Done.is c.done.new.self e) c.done.ensures.ok
+
+pub returns-in-Undone-clause-says : goal.returns-in-Undone-clause-says
+returns-in-Undone-clause-says c =
+    on_ok_weaker c.undone.result (λ e from ms co fits. undone_says c.args.self.now ms co c.args.msg.now from fits c.in-Undone.who c.in-Undone.part c.in-Undone.is c.args.out.now.mails c.undone.new.out.mails e) c.undone.ensures.said
+
+pub returns-in-Undone-clause-stands : goal.returns-in-Undone-clause-stands
+returns-in-Undone-clause-stands c =
+    on_ok_weaker c.undone.result (λ e from ms co fits. undone_stands c.args.self.now ms co c.args.msg.now from fits c.in-Undone.who c.in-Undone.part c.in-Undone.is c.undone.new.self e) c.undone.ensures.ok
+
+pub returns-in_default : goal.returns-in_default
+returns-in_default c =
+    let e = other_kind c.args.msg.now c.in_default.not-Start c.in_default.not-Granted c.in_default.not-Refused c.in_default.not-Yes c.in_default.not-No c.in_default.not-Done c.in_default.not-Undone in
+    record {
+      role = refl;
+      says = λ from ms co fits. quiet_says c.args.self.now ms c.args.msg.now e c.args.out.now.mails;
+      stands = λ from ms co fits. quiet_stands c.args.self.now ms c.args.msg.now e from co fits;
+      same_mails = tt;
+      same = tt;
+    }

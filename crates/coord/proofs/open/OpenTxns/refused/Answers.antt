@@ -1,0 +1,19 @@
+use Rattle.std.proofs.Common.{rules, sym, ap, ◌∙◌, Some}
+use Rattle.std.specs.Prelude.{option_map}
+use Rattle.std.proofs.lemmas.Result.{on_err_weaker}
+use Rattle.coord.specs.Attempts.{state_of}
+use Rattle.coord.specs.States.{State}
+use Rattle.coord.proofs.Opens.{keep_state}
+use Rattle.coord.proofs.open.OpenTxns.refused.Goals as goal
+
+pub refused-requires-clause-placed : goal.refused-requires-clause-placed
+refused-requires-clause-placed c = c.requires.placed (state_of c.in-Some.attempt.now) (ap (option_map state_of) (sym c.in-Some.ensures.value))
+
+pub refused-requires-clause-more : goal.refused-requires-clause-more
+refused-requires-clause-more c = c.requires.more (state_of c.in-Some.attempt.now) (ap (option_map state_of) (sym c.in-Some.ensures.value))
+
+pub returns-in-Some-clause-err : goal.returns-in-Some-clause-err
+returns-in-Some-clause-err c =
+    on_err_weaker c.refused.result (λ e. keep_state c.args.self.now.attempts.entries (c.get_mut.follows.lender c.refused.new.self).entries c.args.who.txn c.refused.new.self
+    (ap (λ (t : State). Some t) e ∙ ap (option_map state_of) c.in-Some.ensures.value)
+    ((c.get_mut.follows.holds c.refused.new.self).3 (search rules)).0) c.refused.ensures.err

@@ -1,0 +1,12 @@
+pub mod Attempts
+pub mod States
+pub mod Following
+pub mod Ballots
+pub mod Bounds
+pub mod Endings
+pub mod Left
+pub mod Placed
+pub mod Prepares
+pub mod Open
+pub mod Moves
+pub mod Standing

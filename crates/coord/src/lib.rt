@@ -1,0 +1,17 @@
+//! The coordinator of a node under the voting protocols.
+#![tactic(auto)]
+
+mod attempts;
+mod ballots;
+mod coord;
+mod counters;
+mod home;
+mod open;
+mod partitions;
+mod replies;
+mod saying;
+#[cfg(test)]
+mod tests_leaves;
+mod threads;
+
+pub use coord::Coord;

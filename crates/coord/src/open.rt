@@ -1,0 +1,139 @@
+//! The home transactions that are started and not over.
+ghost use Rattle.std.specs.Prelude.{◌≡◌, ◌<◌, ◌++◌, eqb, length, Some, None, OnOk, OnErr};
+ghost use Rattle.std.specs.List.{list_all};
+ghost use Rattle.deneva_base.specs.Lists.{IsIn};
+ghost use Rattle.deneva_base.specs.declared.numbers.TxnId as ids;
+ghost use Rattle.txn_program.specs.Serial.{all_ids};
+ghost use Rattle.coord.specs.Attempts.{state_of, setting_at};
+ghost use Rattle.coord.specs.Ballots.{ballot_of};
+ghost use Rattle.coord.specs.Open.{state_at, SetsState, SameStates, WithState};
+ghost use Rattle.coord.specs.Placed.{ArePlaced};
+ghost use Rattle.coord.specs.States as states;
+ghost use Rattle.coord.specs.States.{State, kept_stamp, granted_mails, refused_mails, voted_mails, with_left, without};
+
+use crate::attempts::Attempting;
+use crate::ballots::Ballot;
+use crate::home::Home;
+use deneva_base::{Attempt, Key, NoMemory, Row, TxnId};
+use server_core::Outbox;
+use std::alloc::Global;
+use std::collections::HashMap;
+
+/// The current attempt of each of them.
+#[derive(Drop)]
+pub(crate) struct OpenTxns {
+    attempts: HashMap<TxnId, Attempting>,
+}
+
+impl OpenTxns {
+    pub fn new(alloc: Global) -> OpenTxns
+        ensures { (x : ids.TxnId) → state_at result x ≡ None }
+    {
+        OpenTxns {
+            attempts: HashMap::new(alloc),
+        }
+    }
+
+    /// The stamp of the current attempt, and 0 where there is none.
+    pub fn stamp(&self, id: TxnId) -> u64
+        ensures { result ≡ kept_stamp (state_at self.now id) }
+    {
+        match self.attempts.get(&id) {
+            Some(attempt) => attempt.stamp,
+            None => 0,
+        }
+    }
+
+    /// Opens a transaction, or has it go on with a new attempt.
+    pub fn put(&mut self, id: TxnId, attempt: Attempting) -> Result<(), NoMemory>
+        ensures ok { OnOk result (SetsState self.old id (Some (state_of attempt)) self.new) }
+        ensures err { OnErr result (SameStates self.old self.new) }
+    {
+        self.attempts.insert(id, attempt)?;
+        Ok(())
+    }
+
+    /// The transaction is over.
+    pub fn remove(&mut self, id: TxnId)
+        ensures { SetsState self.old id None self.new }
+    {
+        drop(self.attempts.remove(&id));
+    }
+
+    /// The access that the attempt asked for is granted.
+    pub fn granted(
+        &mut self,
+        home: &Home,
+        who: Attempt,
+        key: Key,
+        row: &Row,
+        bound: u64,
+        out: &mut Outbox,
+    ) -> Result<(), NoMemory>
+        requires id { IsIn who.txn (all_ids home.now.work.now) }
+        requires placed { WithState self.old who.txn (λ t. ArePlaced t.accesses) }
+        ensures ok { OnOk result (WithState self.old who.txn (λ t. SetsState self.old who.txn (Some (states.granted (setting_at home.now) (record { row = row.now; bound = bound; key = key }) t)) self.new)) }
+        ensures said { OnOk result (WithState self.old who.txn (λ t. out.new.mails ≡ out.old.mails ++ granted_mails (setting_at home.now) home.now.part who (record { row = row.now; bound = bound; key = key }) t)) }
+        ensures err { OnErr result (SameStates self.old self.new) }
+        ensures same_mails { OnErr result (out.new.mails ≡ out.old.mails) }
+    {
+        match self.attempts.get_mut(&who.txn) {
+            Some(attempt) => attempt.granted(home, who, key, row, bound, out),
+            None => Ok(()),
+        }
+    }
+
+    /// It is refused.
+    pub fn refused(&mut self, home: &Home, who: Attempt, out: &mut Outbox) -> Result<(), NoMemory>
+        requires placed { WithState self.old who.txn (λ t. ArePlaced t.accesses) }
+        requires more { WithState self.old who.txn (λ t. t.granted < length t.accesses) }
+        ensures ok { OnOk result (WithState self.old who.txn (λ t. SetsState self.old who.txn (Some (states.refused (setting_at home.now) t)) self.new)) }
+        ensures said { OnOk result (WithState self.old who.txn (λ t. out.new.mails ≡ out.old.mails ++ refused_mails (setting_at home.now) home.now.part who t)) }
+        ensures err { OnErr result (SameStates self.old self.new) }
+        ensures same_mails { OnErr result (out.new.mails ≡ out.old.mails) }
+    {
+        match self.attempts.get_mut(&who.txn) {
+            Some(attempt) => attempt.refused(home, who, out),
+            None => Ok(()),
+        }
+    }
+
+    /// A participant votes.
+    pub fn voted(
+        &mut self,
+        home: &Home,
+        who: Attempt,
+        ballot: Ballot,
+        out: &mut Outbox,
+    ) -> Result<(), NoMemory>
+        requires placed { WithState self.old who.txn (λ t. ArePlaced t.accesses) }
+        ensures ok { OnOk result (WithState self.old who.txn (λ t. SetsState self.old who.txn (Some (states.voted (setting_at home.now) (ballot_of ballot) t)) self.new)) }
+        ensures said { OnOk result (WithState self.old who.txn (λ t. out.new.mails ≡ out.old.mails ++ voted_mails (setting_at home.now) home.now.part who (ballot_of ballot) t)) }
+        ensures err { OnErr result (SameStates self.old self.new) }
+        ensures same_mails { OnErr result (out.new.mails ≡ out.old.mails) }
+    {
+        match self.attempts.get_mut(&who.txn) {
+            Some(attempt) => attempt.voted(home, who, ballot, out),
+            None => Ok(()),
+        }
+    }
+
+    /// Whether the attempt has ended everywhere but at this partition.
+    pub fn is_last(&self, id: TxnId, part: u8) -> bool
+        ensures { WithState self.now id (λ t. result ≡ list_all (λ q. eqb q part) t.left) }
+    {
+        match self.attempts.get(&id) {
+            Some(attempt) => attempt.is_last(part),
+            None => false,
+        }
+    }
+
+    /// It has ended at this partition.
+    pub fn closed(&mut self, id: TxnId, part: u8)
+        ensures { WithState self.old id (λ t. SetsState self.old id (Some (with_left (without part t.left) t)) self.new) }
+    {
+        if let Some(attempt) = self.attempts.get_mut(&id) {
+            attempt.closed(part);
+        }
+    }
+}

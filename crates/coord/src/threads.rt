@@ -1,0 +1,21 @@
+//! Workers may move what this crate declares: each call below asks the check for it.
+
+use crate::Coord;
+use crate::attempts::Attempting;
+use crate::ballots::{Ballot, Decision};
+use crate::home::Home;
+use crate::open::OpenTxns;
+use crate::saying::Ending;
+
+fn crosses<X: Send + Sync>() {}
+
+/// Each type may be moved to another thread and shared between threads.
+fn may_cross_threads() {
+    crosses::<Ballot>();
+    crosses::<Decision>();
+    crosses::<Ending>();
+    crosses::<Home>();
+    crosses::<Attempting>();
+    crosses::<OpenTxns>();
+    crosses::<Coord>();
+}
