@@ -14,7 +14,7 @@ use Rattle.server_core.specs.Roles.{Role, FitsRole}
 use Rattle.server_core.specs.Setting.{Setting, setting}
 use Rattle.server_core.specs.VotingFits.{FineRow}
 use Rattle.server_core.specs.declared.messages.Msg.{Msg}
-use Rattle.server_core.specs.declared.messages.Msg.TheVariants.{Start, Granted}
+use Rattle.server_core.specs.declared.messages.Msg.TheVariants.{Start}
 use Rattle.node_trials.specs.declared.steps.Step.{Step}
 use Rattle.node_trials.specs.Trials.{FitInTurn}
 use Rattle.node_trials.specs.Works.{trial_role, trial_work, first_attempt, granted_step, asked_steps, meeting_steps, apart_steps, one_no_steps, two_noes_steps, refused_steps}

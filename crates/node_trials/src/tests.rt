@@ -1,11 +1,17 @@
 //! What one node says, worked out by hand.
 
-use super::*;
-use crate::asked::{WHO, asked, refused, said_with_waits, said_without_waits};
+ghost use Rattle.std.specs.Prelude.{◌≡◌};
+ghost use Rattle.deneva_base.specs.declared.keys.Mode.TheVariants.{Update};
+ghost use Rattle.txn_program.specs.Transactions.{ycsb_key};
+ghost use Rattle.server_core.specs.declared.messages.Msg.TheVariants.{Ask};
+
+use crate::asked::{
+    AGAIN, WHO, apart, meeting, no, refused, said_with_waits, said_without_waits, voted, yes,
+};
 use crate::steps::Step;
 use crate::works::row;
 use deneva_base::{
-    Attempt, Bound, ByteList, Cause, Cell, Key, Keyed, Mode, NoMemory, Number, Row, RowList, TxnId,
+    Attempt, Bound, ByteList, Cell, Keyed, Mode, NoMemory, Number, Row, RowList, TxnId,
 };
 use server_core::{Mail, Msg, Outbox};
 use std::alloc::Global;
@@ -18,23 +24,9 @@ const OTHER: Attempt = Attempt {
     turn: 1,
 };
 
-/// The second attempt of transaction 1.
-const AGAIN: Attempt = Attempt {
-    txn: TxnId(1),
-    turn: 2,
-};
-
-fn held() -> Cause {
-    Cause::Held {
-        key: ycsb_key_of(0),
-        by: Attempt {
-            txn: TxnId(3),
-            turn: 1,
-        },
-    }
-}
-
-fn ask(who: Attempt, stamp: u64, number: u32) -> Msg {
+fn ask(who: Attempt, stamp: u64, number: u32) -> Msg
+    ensures { result ≡ Ask who stamp (ycsb_key number) Update }
+{
     Msg::Ask {
         who,
         stamp,
@@ -73,16 +65,34 @@ fn prepare(alloc: Global, numbers: &[u32]) -> Result<Msg, NoMemory> {
     })
 }
 
-/// What the node says until transaction 1 is asked for its votes, and then these mails.
-fn asked_and(alloc: Global, more: Vec<Mail>) -> Result<Vec<Mail>, NoMemory> {
-    let mut more = more;
+/// The loaded row 0 is granted.
+fn loaded(alloc: Global, who: Attempt) -> Result<Msg, NoMemory> {
+    let keyed = row(alloc, 0)?;
+    Ok(Msg::Granted {
+        who,
+        key: keyed.key,
+        row: keyed.row,
+        version: Number { n: 0, id: TxnId(0) },
+        bound: 0,
+    })
+}
+
+/// What the node says until transaction 1 is asked for its votes.
+fn asked_mails(alloc: Global) -> Result<Vec<Mail>, NoMemory> {
     let mut mails = Vec::new(alloc);
     mails.push(mail(0, ask(WHO, 1, 0)))?;
     mails.push(mail(1, ask(WHO, 1, 1)))?;
     mails.push(mail(0, ask(WHO, 1, 2)))?;
     mails.push(mail(0, prepare(alloc, &[0, 2])?))?;
     mails.push(mail(1, prepare(alloc, &[1])?))?;
-    mails.append(&mut more)?;
+    Ok(mails)
+}
+
+/// The same, and then that it is aborted.
+fn aborted_mails(alloc: Global) -> Result<Vec<Mail>, NoMemory> {
+    let mut mails = asked_mails(alloc)?;
+    mails.push(mail(0, Msg::Abort { who: WHO }))?;
+    mails.push(mail(1, Msg::Abort { who: WHO }))?;
     Ok(mails)
 }
 
@@ -101,50 +111,83 @@ fn are(out: &Outbox, mails: &[Mail]) -> bool {
 #[test]
 fn windows_that_meet_commit_with_the_least_number(rt: HostRuntime) -> Result<(), Fail> {
     let alloc = rt.alloc();
-    let mut votes = Vec::new(alloc);
-    let (lo, hi) = (1, 9);
-    votes.push(Step {
-        from: 0,
-        msg: Msg::Yes {
-            who: WHO,
-            part: 0,
-            lo,
-            hi,
-        },
-    })?;
-    let (lo, hi) = (5, 12);
-    votes.push(Step {
-        from: 1,
-        msg: Msg::Yes {
-            who: WHO,
-            part: 1,
-            lo,
-            hi,
-        },
-    })?;
-    votes.push(Step {
-        from: 0,
-        msg: Msg::Done { who: WHO, part: 0 },
-    })?;
-    votes.push(Step {
-        from: 1,
-        msg: Msg::Done { who: WHO, part: 1 },
-    })?;
-    let steps = asked(alloc, votes)?;
+    let steps = meeting(alloc)?;
     let number = Number { n: 5, id: TxnId(1) };
-    let mut mails = Vec::new(alloc);
-    mails.push(mail(0, Msg::Commit { who: WHO, number }))?;
-    mails.push(mail(1, Msg::Commit { who: WHO, number }))?;
     let next = Attempt {
         txn: TxnId(3),
         turn: 1,
     };
+    let mut mails = asked_mails(alloc)?;
+    mails.push(mail(0, Msg::Commit { who: WHO, number }))?;
+    mails.push(mail(1, Msg::Commit { who: WHO, number }))?;
     mails.push(mail(0, Msg::Start { who: next }))?;
-    assert!(rt;
-        are(
-            &said_without_waits(alloc, &steps)?,
-            &asked_and(alloc, mails)?
-        )
-    );
+    assert!(rt; are(&said_without_waits(alloc, &steps)?, &mails));
+    Ok(())
+}
+
+#[test]
+fn windows_apart_abort_and_a_restart_keeps_its_stamp(rt: HostRuntime) -> Result<(), Fail> {
+    let alloc = rt.alloc();
+    let steps = apart(alloc)?;
+    let mut mails = aborted_mails(alloc)?;
+    mails.push(mail(0, Msg::Start { who: AGAIN }))?;
+    mails.push(mail(0, ask(AGAIN, 1, 0)))?;
+    assert!(rt; are(&said_without_waits(alloc, &steps)?, &mails));
+    Ok(())
+}
+
+#[test]
+fn one_no_aborts(rt: HostRuntime) -> Result<(), Fail> {
+    let alloc = rt.alloc();
+    let steps = voted(alloc, yes(0, 1, 9), no(1))?;
+    assert!(rt; are(&said_without_waits(alloc, &steps)?, &aborted_mails(alloc)?));
+    Ok(())
+}
+
+#[test]
+fn two_noes_abort(rt: HostRuntime) -> Result<(), Fail> {
+    let alloc = rt.alloc();
+    let steps = voted(alloc, no(0), no(1))?;
+    assert!(rt; are(&said_without_waits(alloc, &steps)?, &aborted_mails(alloc)?));
+    Ok(())
+}
+
+#[test]
+fn a_refusal_aborts_where_it_asked(rt: HostRuntime) -> Result<(), Fail> {
+    let alloc = rt.alloc();
+    let steps = refused(alloc)?;
+    let mut mails = Vec::new(alloc);
+    mails.push(mail(0, ask(WHO, 1, 0)))?;
+    mails.push(mail(1, ask(WHO, 1, 1)))?;
+    mails.push(mail(0, ask(WHO, 1, 2)))?;
+    mails.push(mail(0, Msg::Abort { who: WHO }))?;
+    mails.push(mail(1, Msg::Abort { who: WHO }))?;
+    assert!(rt; are(&said_without_waits(alloc, &steps)?, &mails));
+    Ok(())
+}
+
+/// Transaction 1 holds the row, the older transaction 2 waits for it, and is granted it when 1 aborts.
+#[test]
+fn an_older_transaction_waits_and_is_woken(rt: HostRuntime) -> Result<(), Fail> {
+    let alloc = rt.alloc();
+    let steps = [
+        Step {
+            from: 0,
+            msg: ask(WHO, 20, 0),
+        },
+        Step {
+            from: 1,
+            msg: ask(OTHER, 10, 0),
+        },
+        Step {
+            from: 0,
+            msg: Msg::Abort { who: WHO },
+        },
+    ];
+    let mut mails = Vec::new(alloc);
+    mails.push(mail(0, loaded(alloc, WHO)?))?;
+    mails.push(mail(0, Msg::Undone { who: WHO, part: 0 }))?;
+    mails.push(mail(1, loaded(alloc, OTHER)?))?;
+    assert!(rt; are(&said_with_waits(alloc, &steps)?, &mails));
     Ok(())
 }
