@@ -1,14 +1,12 @@
 -- The messages of transaction 1 until its votes fit, one after another.
-use Rattle.std.proofs.Common.{◌≡◌, ◌≢◌, ◌⊎◌, ℕ, List, [], ◌∷◌, ◌++◌, map, Bool, true, false, refl, sym, ap, ◌∙◌, inl, inr, ⊎_elim, true≢false, arith}
+use Rattle.std.proofs.Common.{◌≡◌, ◌≢◌, ℕ, List, [], ◌∷◌, ◌++◌, map, true, false, refl, sym, ap, ◌∙◌, inl, inr, ⊎_elim, true≢false, arith}
 use Rattle.deneva_base.specs.Lists.{IsIn}
-use Rattle.deneva_base.specs.Modes.{IsReading}
 use Rattle.deneva_base.specs.Rows.{Row}
-use Rattle.deneva_base.specs.declared.config.Protocol.{Protocol}
-use Rattle.deneva_base.specs.declared.config.Protocol.TheVariants.{NoWait, WaitDie}
+use Rattle.deneva_base.specs.declared.config.Protocol.TheVariants.{NoWait}
 use Rattle.deneva_base.specs.declared.keys.Access.{Access}
 use Rattle.deneva_base.specs.declared.keys.Key.{Key}
 use Rattle.deneva_base.specs.declared.keys.Mode.{Mode}
-use Rattle.deneva_base.specs.declared.keys.Mode.TheVariants.{Update, Put}
+use Rattle.deneva_base.specs.declared.keys.Mode.TheVariants.{Update}
 use Rattle.txn_program.specs.Transactions.{ycsb_key}
 use Rattle.server_core.specs.Roles.{Role, FitsRole}
 use Rattle.server_core.specs.Setting.{Setting, setting}
@@ -17,7 +15,7 @@ use Rattle.server_core.specs.declared.messages.Msg.{Msg}
 use Rattle.server_core.specs.declared.messages.Msg.TheVariants.{Start}
 use Rattle.node_trials.specs.declared.steps.Step.{Step}
 use Rattle.node_trials.specs.Trials.{FitInTurn}
-use Rattle.node_trials.specs.Works.{trial_role, trial_work, first_attempt, granted_step, asked_steps, meeting_steps, apart_steps, one_no_steps, two_noes_steps, refused_steps}
+use Rattle.node_trials.specs.Works.{trial_role, first_attempt, granted_step, asked_steps, meeting_steps, apart_steps, one_no_steps, two_noes_steps, refused_steps}
 
 abbrev r : Role
 r = trial_role NoWait

@@ -1,7 +1,7 @@
 -- Two Asks for one row and the Abort of the first fit, one after another.
-use Rattle.std.proofs.Common.{◌≡◌, ◌≢◌, ℕ, List, [], ◌∷◌, refl, sym, ap, ◌∙◌, inl, inr, ⊎_elim, arith}
+use Rattle.std.proofs.Common.{◌≡◌, [], ◌∷◌, refl, ap, inl, inr, ⊎_elim, arith}
 use Rattle.deneva_base.specs.Conditions.{MayAsk, MayAbort}
-use Rattle.deneva_base.specs.History.{History, Asked, asks, waits}
+use Rattle.deneva_base.specs.History.{Asked}
 use Rattle.deneva_base.specs.Lists.{IsIn}
 use Rattle.deneva_base.specs.declared.config.Protocol.TheVariants.{WaitDie}
 use Rattle.deneva_base.specs.declared.keys.Mode.TheVariants.{Update}
@@ -9,7 +9,7 @@ use Rattle.deneva_base.specs.declared.numbers.Attempt.{Attempt}
 use Rattle.deneva_base.specs.declared.rows.Cell.TheVariants.{Text}
 use Rattle.txn_program.specs.Transactions.{ycsb_key}
 use Rattle.server_core.specs.Participant.{calls}
-use Rattle.server_core.specs.Roles.{Role, FitsRole}
+use Rattle.server_core.specs.Roles.{Role}
 use Rattle.server_core.specs.Setting.{Setting, setting, loaded_at}
 use Rattle.server_core.specs.declared.messages.Msg.{Msg}
 use Rattle.server_core.specs.declared.messages.Msg.TheVariants.{Ask, Abort}

@@ -109,7 +109,7 @@ fn granted(alloc: Global, from: u8, number: u32) -> Result<Step, NoMemory>
     Ok(Step { from, msg })
 }
 
-/// Transaction 1 is started, and so many of its accesses are granted.
+/// Transaction 1 is started, and its first two accesses are granted.
 fn asked(alloc: Global) -> Result<Vec<Step>, NoMemory>
     ensures { IfOk result (λ steps. steps.items ≡ granted_twice) }
 {

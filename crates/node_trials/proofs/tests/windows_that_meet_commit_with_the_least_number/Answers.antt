@@ -1,4 +1,4 @@
-use Rattle.std.proofs.Common.{List, [], ◌++◌, sym, subst, ◌∙◌}
+use Rattle.std.proofs.Common.{List, [], sym, subst, ◌∙◌}
 use Rattle.deneva_base.specs.declared.config.Protocol.TheVariants.{NoWait}
 use Rattle.node_trials.specs.declared.steps.Step.{Step}
 use Rattle.node_trials.specs.Trials.{FitInTurn}
