@@ -1,11 +1,14 @@
 -- A small workload.
-use Rattle.std.specs.Prelude.{ℕ, List, [], ◌∷◌, map}
+use Rattle.std.specs.Prelude.{ℕ, List, [], ◌∷◌, ◌++◌, map}
 use Rattle.deneva_base.specs.declared.rows.Cell.TheVariants.{Text}
 use Rattle.deneva_base.specs.declared.rows.Keyed.{Keyed}
 use Rattle.deneva_base.specs.declared.config.Protocol.{Protocol}
 use Rattle.deneva_base.specs.declared.numbers.Attempt.{Attempt}
 use Rattle.server_core.specs.Roles.{Role}
-use Rattle.server_core.specs.declared.messages.Msg.TheVariants.{Start, Granted}
+use Rattle.server_core.specs.declared.messages.Msg.{Msg}
+use Rattle.server_core.specs.declared.messages.Msg.TheVariants.{Start, Granted, Refused, Yes, No, Done, Undone}
+use Rattle.deneva_base.specs.declared.causes.Cause.{Cause}
+use Rattle.deneva_base.specs.declared.causes.Cause.TheVariants.{Held}
 use Rattle.node_trials.specs.declared.steps.Step.{Step}
 use Rattle.txn_program.specs.Transactions.{ycsb_key}
 use Rattle.txn_program.specs.declared.programs.Program.TheVariants.{Ycsb}
@@ -35,5 +38,34 @@ first_attempt = record { txn = record { 0 = 1 }; turn = 1 }
 abbrev pub granted_step : ℕ → ℕ → Step
 granted_step from n = record { from = from; msg = Granted first_attempt (ycsb_key n) (Text (97 ∷ []) ∷ []) (record { n = 0; id = record { 0 = 0 } }) 0 }
 
+abbrev pub sent : ℕ → Msg → Step
+sent from msg = record { from = from; msg = msg }
+
+abbrev pub granted_twice : List Step
+granted_twice = sent 0 (Start first_attempt) ∷ granted_step 0 0 ∷ granted_step 1 1 ∷ []
+
 abbrev pub asked_steps : List Step
-asked_steps = record { from = 0; msg = Start first_attempt } ∷ granted_step 0 0 ∷ granted_step 1 1 ∷ granted_step 0 2 ∷ []
+asked_steps = granted_twice ++ granted_step 0 2 ∷ []
+
+abbrev pub held : Cause
+held = Held (ycsb_key 0) (record { txn = record { 0 = 3 }; turn = 1 })
+
+-- the windows meet from 5 to 9
+abbrev pub meeting_steps : List Step
+meeting_steps = sent 0 (Yes first_attempt 0 1 9) ∷ sent 1 (Yes first_attempt 1 5 12) ∷ sent 0 (Done first_attempt 0) ∷ sent 1 (Done first_attempt 1) ∷ []
+
+-- they do not; then the second attempt starts
+abbrev pub apart_steps : List Step
+apart_steps =
+    sent 0 (Yes first_attempt 0 1 4) ∷ sent 1 (Yes first_attempt 1 5 9) ∷ sent 0 (Undone first_attempt 0) ∷ sent 1 (Undone first_attempt 1)
+    ∷ sent 0 (Start (record { txn = record { 0 = 1 }; turn = 2 })) ∷ []
+
+abbrev pub one_no_steps : List Step
+one_no_steps = sent 0 (Yes first_attempt 0 1 9) ∷ sent 1 (No first_attempt 1 held) ∷ []
+
+abbrev pub two_noes_steps : List Step
+two_noes_steps = sent 0 (No first_attempt 0 held) ∷ sent 1 (No first_attempt 1 held) ∷ []
+
+-- the third access is refused
+abbrev pub refused_steps : List Step
+refused_steps = granted_twice ++ sent 0 (Refused first_attempt (ycsb_key 2) held) ∷ []

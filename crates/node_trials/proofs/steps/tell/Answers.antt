@@ -1,6 +1,5 @@
 use Rattle.std.proofs.Common.{◌∷◌, ◌+◌, drop, sym, subst}
 use Rattle.server_core.specs.Roles.{Role, FitsRole}
-use Rattle.server_core.specs.declared.messages.Msg.{Msg}
 use Rattle.node_trials.specs.declared.steps.Step.{Step}
 use Rattle.node_trials.specs.Trials.{FitInTurn}
 use Rattle.node_trials.proofs.Listing.{fits_one}

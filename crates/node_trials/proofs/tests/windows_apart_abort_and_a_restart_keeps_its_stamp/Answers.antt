@@ -1,0 +1,11 @@
+use Rattle.std.proofs.Common.{List, [], sym, subst, ◌∙◌}
+use Rattle.deneva_base.specs.declared.config.Protocol.TheVariants.{NoWait}
+use Rattle.node_trials.specs.declared.steps.Step.{Step}
+use Rattle.node_trials.specs.Trials.{FitInTurn}
+use Rattle.node_trials.specs.Works.{trial_role, apart_steps}
+use Rattle.node_trials.proofs.Fitting.{asked_fit, apart_fit}
+use Rattle.node_trials.proofs.tests.windows_apart_abort_and_a_restart_keeps_its_stamp.Goals as goal
+
+pub said_without_waits-requires : goal.said_without_waits-requires
+said_without_waits-requires g c =
+    subst (λ (l : List Step). FitInTurn (trial_role NoWait) [] l) (sym (c.deref.ensures.value ∙ c.in_ok-steps.ensures)) (asked_fit apart_steps apart_fit)
