@@ -44,7 +44,7 @@ impl Letter for Mail {
 
 /// A node of a run, once it is made. It stands for the messages that it has handled, the newest first; it need not keep
 /// them.
-pub trait Handles: Sized + Drop + Send {
+pub trait Handles: Sized + Drop {
     /// Its configuration, its workload and its part.
     ghost role: { Self → Role };
 

@@ -12,4 +12,4 @@ mod threads;
 mod world;
 
 pub use server_core::Schedule;
-pub use world::{Finished, World, run_all};
+pub use world::{Finished, Stopped, World, run_all};

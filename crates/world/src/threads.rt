@@ -10,7 +10,7 @@ fn crosses<X: Send + Sync>() {}
 fn moves<X: Send>() {}
 
 /// A world may be moved to another thread, as its nodes may.
-fn world_may_move<'w, S: Server<'w>>() {
+fn world_may_move<'w, S: Server<'w> + Send>() {
     moves::<World<'w, S>>();
 }
 

@@ -33,6 +33,13 @@ pub struct Finished {
     pub rows: RowList,
 }
 
+/// The nodes of a run that was stopped, in the order of their parts, and its history.
+#[derive(Drop)]
+pub struct Stopped<S> {
+    pub nodes: Items<S>,
+    pub history: History,
+}
+
 /// The nodes of a run, its history, and what is in flight after it.
 #[derive(Drop)]
 pub struct World<'w, S: Server<'w>> {
@@ -179,6 +186,18 @@ impl<'w, S: Server<'w>> World<'w, S> {
             history: History::of(self.history),
             rows,
         })
+    }
+
+    /// Its nodes and its history, from which it can be resumed. What is in flight is dropped: the history tells it.
+    pub fn stop(self) -> Stopped<S>
+        ensures history { result.history ≡ reverse self.entry.progress.entries }
+        ensures nodes { HasNodes S.role S.stands result.nodes (seen self.entry.config self.entry.work result.history []) }
+        ensures run { IsRunning S.protocol self.entry }
+    {
+        Stopped {
+            nodes: Items::of(self.nodes),
+            history: History::of(self.history),
+        }
     }
 
     /// Nodes as they stand after a history that is a run of theirs. What is in flight after it is found by delivering its

@@ -11,7 +11,7 @@ pub in_key_order-requires : goal.in_key_order-requires
 in_key_order-requires g c =
     let was = c.self.inside in
     let inv = c.self.invariant in
-    let laws = g.met.S.Handles g.world.𝓛 g.world.𝓜 g.world.𝓡 ((λ s x. x), (λ x. x), (λ x. x), λ x. x) in
+    let laws = g.met.S.Handles in
     let w = seen was.config was.work.now was.history.items (in_line was.flight was.held was.said.mails) in
     let gathered = subst (λ (l : List g.row.S.Denot). Gathered g.S.Handles.role g.S.Handles.stands l c.in_ok-gather.field-0) c.deref.ensures.value c.in_ok-gather.ensures in
     record { distinct = world_distinct g.S.Handles.role g.S.Handles.stands g.S.Handles.protocol laws.keeps_apart was.nodes.items w inv.0 inv.1 c.in_ok-gather.field-0 gathered }
@@ -20,7 +20,7 @@ pub returns-clause-rows : goal.returns-clause-rows
 returns-clause-rows g c key =
     let was = c.self.inside in
     let inv = c.self.invariant in
-    let laws = g.met.S.Handles g.world.𝓛 g.world.𝓜 g.world.𝓡 ((λ s x. x), (λ x. x), (λ x. x), λ x. x) in
+    let laws = g.met.S.Handles in
     let w = seen was.config was.work.now was.history.items (in_line was.flight was.held was.said.mails) in
     let gathered = subst (λ (l : List g.row.S.Denot). Gathered g.S.Handles.role g.S.Handles.stands l c.in_ok-gather.field-0) c.deref.ensures.value c.in_ok-gather.ensures in
     c.in_ok-rows.ensures.rows key

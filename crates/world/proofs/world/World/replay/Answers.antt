@@ -6,12 +6,12 @@ use Rattle.world.specs.Worlds.{Seen}
 use Rattle.world.proofs.Replaying.{next_there, replayed, run_of}
 use Rattle.world.proofs.world.World.replay.Goals as goal
 
-pub deliver-requires-send-S : goal.deliver-requires-send-S
-deliver-requires-send-S g c =
+pub deliver-requires : goal.deliver-requires
+deliver-requires g c =
     let found = rw c.in-Some.is at c.in_ok-k.ensures.some in
     let within = slice_get_within c.loop-entry.self.progress.flight c.in-Some.k found.0 found.1 in
     let same = c.find.ensures.same in
-    λ lifetimes lives. (c.type_bounds.send-S, ((refl, tt), subst (λ (x : Seen). c.in-Some.k < length x.progress.flight) (sym same) within))
+    λ lifetimes. ((refl, tt), subst (λ (x : Seen). c.in-Some.k < length x.progress.flight) (sym same) within)
 
 pub unreachable-requires : goal.unreachable-requires
 unreachable-requires g c =

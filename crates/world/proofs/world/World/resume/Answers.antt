@@ -4,12 +4,12 @@ use Rattle.world.specs.Worlds.{Seen, HasNodes, seen, in_line}
 use Rattle.world.proofs.Replaying.{run_of, same_nodes}
 use Rattle.world.proofs.world.World.resume.Goals as goal
 
-pub replay-requires-send-S : goal.replay-requires-send-S
-replay-requires-send-S g c =
+pub replay-requires : goal.replay-requires
+replay-requires g c =
     let w = c.in_ok-world.world in
     let is = c.in_ok-world.ensures in
     let run = run_of w.config c.args.config w.work c.args.work.now (reverse c.as_slice.result.now) (reverse c.args.history) c.requires.run.0 is.config is.work (ap reverse c.as_slice.ensures) c.requires.run.1 in
-    λ lifetimes lives. (c.type_bounds.send-S, ((refl, tt), (ap (λ (p : Progress). p.entries) is.progress, (c.requires.run.0, run))))
+    λ lifetimes. ((refl, tt), (ap (λ (p : Progress). p.entries) is.progress, (c.requires.run.0, run)))
 
 pub invariant_of-world : goal.invariant_of-world
 invariant_of-world g c =

@@ -19,23 +19,23 @@ returns-then-count-eq0-clause-ok g c =
     let w = c.loop-picker.self in
     let inv = c.loop-picker.invariant in
     let r = c.in_flight-count.ensures.run in
-    let laws = g.met.S.Handles g.world.𝓛 g.world.𝓜 g.world.𝓡 ((λ s x. x), (λ x. x), (λ x. x), λ x. x) in
+    let laws = g.met.S.Handles in
     let none : length w.progress.flight ≡ 0 = search rules in
     ran_all c.args.schedule.now c.args.self.now w c.loop-picker.picker inv.0 inv.1 (nil_from_length w.progress.flight none)
     (laws.ends w.config w.work w.progress.entries w.progress.flight r.of_protocol r.ranges r.valid r.run)
 
-pub deliver-requires-send-S : goal.deliver-requires-send-S
-deliver-requires-send-S g c =
+pub deliver-requires : goal.deliver-requires
+deliver-requires g c =
     let below = c.next-k.ensures.below in
     let count = c.in_flight-count.ensures.count in
     let in_flight : c.next-k.result < length c.loop-picker.self.progress.flight = omega (arith, below, count) in
-    λ lifetimes lives. (c.type_bounds.send-S, ((refl, tt), in_flight))
+    λ lifetimes. ((refl, tt), in_flight)
 
 pub loop-picker-smaller : goal.loop-picker-smaller
 loop-picker-smaller g c =
     let w = c.loop-picker.self in
     let r = c.in_flight-count.ensures.run in
-    let laws = g.met.S.Handles g.world.𝓛 g.world.𝓜 g.world.𝓡 ((λ s x. x), (λ x. x), (λ x. x), λ x. x) in
+    let laws = g.met.S.Handles in
     let below = c.next-k.ensures.below in
     let count = c.in_flight-count.ensures.count in
     let k = c.next-k.result in
