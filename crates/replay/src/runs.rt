@@ -1,0 +1,69 @@
+//! Whole runs.
+ghost use Rattle.std.specs.Prelude.{◌≡◌, true, IfOk};
+ghost use Rattle.server_core.specs.Configs.{IsConfig};
+ghost use Rattle.txn_program.specs.Valid.{IsValid};
+ghost use Rattle.replay.specs.Replayed as spec;
+ghost use Rattle.replay.specs.Replayed.{Replays};
+
+use deneva_base::{Config, NoMemory, Protocol};
+use lock_control::Locks;
+use node_core::Node;
+use report::outcome_of;
+use server_core::{History, Outcome, Schedule, Server, runs_are_right};
+use std::alloc::Global;
+use txn_program::Workload;
+use world::{World, run_all};
+
+/// A run from its start until nothing is in flight: its entries in the order of their places, and what came of it.
+#[derive(Debug, Drop)]
+pub struct Ran {
+    pub history: History,
+    pub outcome: Outcome,
+}
+
+/// Whether there are nodes for a protocol.
+pub fn is_built(protocol: Protocol) -> bool
+    ensures { result ≡ spec.is_built protocol }
+{
+    matches!(protocol, Protocol::NoWait | Protocol::WaitDie)
+}
+
+/// The run of these nodes that a schedule picks.
+fn run_in<'w, S: Server<'w>>(
+    alloc: Global,
+    config: Config,
+    work: &'w Workload,
+    schedule: &Schedule,
+) -> Result<Ran, NoMemory>
+    requires config { IsConfig config }
+    requires valid { IsValid work.now }
+    requires protocol { config.protocol ≡ S.protocol }
+    ensures { IfOk result (λ ran. Replays config work.now schedule.now ran) }
+{
+    runs_are_right();
+    let world: World<'w, S> = run_all(alloc, config, work, schedule)?;
+    let finished = world.finish()?;
+    let history = finished.history;
+    let outcome = outcome_of(alloc, config, work, history.as_slice(), finished.rows)?;
+    Ok(Ran { history, outcome })
+}
+
+/// Runs a workload under the protocol of a configuration: the mails are delivered in the order that the schedule picks,
+/// until none is in flight. The only error is want of memory.
+pub fn replay(
+    alloc: Global,
+    config: Config,
+    work: &Workload,
+    schedule: &Schedule,
+) -> Result<Ran, NoMemory>
+    requires config { IsConfig config }
+    requires valid { IsValid work.now }
+    requires built { spec.is_built config.protocol ≡ true }
+    ensures { IfOk result (λ ran. Replays config work.now schedule.now ran) }
+{
+    match config.protocol {
+        Protocol::NoWait => run_in::<Node<Locks<0>>>(alloc, config, work, schedule),
+        Protocol::WaitDie => run_in::<Node<Locks<1>>>(alloc, config, work, schedule),
+        Protocol::Timestamp | Protocol::Mvcc | Protocol::Maat | Protocol::Calvin => unreachable!(),
+    }
+}

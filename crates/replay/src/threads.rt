@@ -1,0 +1,10 @@
+//! Workers may move and share what this crate declares: each call below asks the check for it.
+
+use crate::Ran;
+
+fn crosses<X: Send + Sync>() {}
+
+/// Each type may be moved to another thread and shared between threads.
+fn may_cross_threads() {
+    crosses::<Ran>();
+}
