@@ -1,24 +1,34 @@
 -- What the top call answers and writes.
-use Rattle.std.specs.Prelude.{◌≡◌, ℕ, ◌≤◌, List, [], ◌∷◌, if◌then◌else◌, codes, decimal, Option, Some, None, Ok, Err}
-use Rattle.std.specs.Str.{bytes_eq}
+use Rattle.std.specs.Prelude.{◌≡◌, ◌≢◌, ℕ, ◌≤◌, List, [], ◌∷◌, if◌then◌else◌, codes, decimal, Option, Some, None, Ok, Err}
 use Rattle.deneva_io.specs.Streams.{Rose, IsOver}
 use Rattle.txn_program.specs.declared.programs.Workload.{Workload}
 use Rattle.txn_program.specs.Serial.{serial, all_ids}
 use Rattle.deneva_top.specs.declared.words.Command.{Command}
-use Rattle.deneva_top.specs.declared.words.Command.TheVariants.{Serial}
+use Rattle.deneva_top.specs.declared.words.Command.TheVariants.{Serial, Replay}
 use Rattle.deneva_top.specs.declared.workload_text.faults.FaultKind.{FaultKind}
 use Rattle.deneva_top.specs.declared.workload_text.faults.FaultKind.TheVariants.{Magic, Kind, Arity, NotANumber, OutOfRange, UnknownKey, Repeated, TooMany, NoEnd, Trailing, TooLong}
 use Rattle.deneva_top.specs.declared.workload_text.faults.InputFault.{InputFault}
 use Rattle.deneva_top.specs.Sources.{InputIs, IsReadUnless}
+use Rattle.deneva_top.specs.Words.{command_of}
 use Rattle.report.specs.Records.{Record, line_of}
 use Rattle.report.specs.ReportText.{report_text}
 use Rattle.report.specs.SerialOutcome.{serial_outcome}
+use Rattle.replay.specs.Replayed.{is_built, Replays}
+use Rattle.replay.specs.declared.runs.Ran.{Ran}
 
--- the command that words give, if they give one: exactly the word `serial`
-abbrev pub command_of : List (List ℕ) → Option Command
-command_of [] = None
-command_of (word ∷ []) = if bytes_eq word (codes "serial") then Some Serial else None
-command_of (word ∷ other ∷ words) = None
+-- what can be done of that which words ask for: there have to be nodes for the protocol
+abbrev pub doable : Option Command → Option Command
+doable None = None
+doable (Some Serial) = Some Serial
+doable (Some (Replay config schedule)) = if is_built config.protocol then Some (Replay config schedule) else None
+
+-- what words ask for
+abbrev pub asked : List (List ℕ) → Option Command
+asked words = doable (command_of words)
+
+-- they ask for something that can be done
+abbrev pub IsAsked : List (List ℕ) → Type 0
+IsAsked words = (job : Command) × (asked words ≡ Some job)
 
 -- the last fields of a fault
 abbrev pub kind_fields : FaultKind → Record
@@ -45,11 +55,19 @@ fault_line f = line_of (fault_record f)
 abbrev pub report_of : Workload → List ℕ
 report_of work = report_text (serial_outcome (serial work (all_ids work)))
 
--- what a call answers before it writes: its status and its text, where the source told these bytes left and counted these faults, before and after
-pub record Answers (words : List (List ℕ)) (bytes bytes_now : Option (List ℕ)) (faults faults_now : ℕ) (status : ℕ) (text : List ℕ) : Type 0 where
+-- what is done on a workload, and the text that tells it: under `serial` its serial execution in file order, under `replay`
+-- the run that the schedule picks
+abbrev pub Reports : Command → Workload → Option Ran → List ℕ → Type 0
+Reports Serial work run text = (run ≡ None) × (text ≡ report_of work)
+Reports (Replay config schedule) work None text = ⊥
+Reports (Replay config schedule) work (Some ran) text = Replays config work schedule ran × (text ≡ report_text ran.outcome)
+
+-- what a call answers before it writes: its status, what was run, and its text, where the source told these bytes left and counted these faults, before and after
+pub record Answers (words : List (List ℕ)) (bytes bytes_now : Option (List ℕ)) (faults faults_now : ℕ) (status : ℕ) (run : Option Ran) (text : List ℕ) : Type 0 where
   pub known : status ≤ 4
-  pub report : status ≡ 0 → (command_of words ≡ Some Serial) × IsOver bytes_now × ((work : Workload) × InputIs bytes (Ok work) × (text ≡ report_of work))
+  pub report : status ≡ 0 → IsOver bytes_now × ((job : Command) × (work : Workload) × (asked words ≡ Some job) × InputIs bytes (Ok work) × Reports job work run text)
+  pub no_run : status ≢ 0 → run ≡ None
   pub memory : status ≡ 1 → text ≡ codes "fault,memory\n"
-  pub refused : status ≡ 2 → (command_of words ≡ None) × (text ≡ codes "fault,words\n")
-  pub input : status ≡ 3 → (command_of words ≡ Some Serial) × ((f : InputFault) × InputIs bytes (Err f) × IsReadUnless f bytes_now × (text ≡ fault_line f))
-  pub read : status ≡ 4 → (command_of words ≡ Some Serial) × Rose faults faults_now × (text ≡ codes "fault,read\n")
+  pub refused : status ≡ 2 → (asked words ≡ None) × (text ≡ codes "fault,words\n")
+  pub input : status ≡ 3 → IsAsked words × ((f : InputFault) × InputIs bytes (Err f) × IsReadUnless f bytes_now × (text ≡ fault_line f))
+  pub read : status ≡ 4 → IsAsked words × Rose faults faults_now × (text ≡ codes "fault,read\n")

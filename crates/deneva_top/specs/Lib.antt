@@ -6,3 +6,4 @@ pub mod Gives
 pub mod Numbers
 pub mod Reader
 pub mod Sources
+pub mod Words

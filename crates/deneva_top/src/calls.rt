@@ -1,13 +1,14 @@
 //! The call that the program makes.
-ghost use Rattle.std.specs.Prelude.{◌^◌, ◌≡◌, ◌≢◌, ◌≤◌, ◌<◌, ◌⊎◌, ℕ, List, ◌++◌, length, take, map, string_bytes, codes, true, false, Some, None, Ok, Err, IfOk};
+ghost use Rattle.std.specs.Prelude.{◌^◌, ◌≡◌, ◌≢◌, ◌≤◌, ◌<◌, ◌⊎◌, ℕ, List, ◌++◌, length, take, map, string_bytes, codes, true, false, Option, Some, None, Ok, Err, IfOk};
 ghost use Rattle.deneva_io.specs.Streams.{IsOver, Rose, Grew, WriteTook, WriteCause};
 ghost use Rattle.txn_program.specs.Serial.{all_ids};
 ghost use Rattle.txn_program.specs.Valid.{IsValid};
 ghost use Rattle.txn_program.specs.declared.programs.Workload.{Workload};
 ghost use Rattle.deneva_top.specs.declared.workload_text.faults.InputFault.{InputFault};
-ghost use Rattle.deneva_top.specs.declared.words.Command.TheVariants.{Serial};
+ghost use Rattle.deneva_top.specs.declared.words.Command.{Command};
 ghost use Rattle.deneva_top.specs.Calls as calls;
-ghost use Rattle.deneva_top.specs.Calls.{Answers, fault_line, report_of};
+ghost use Rattle.deneva_top.specs.Calls.{Answers, IsAsked, Reports, fault_line, report_of};
+ghost use Rattle.replay.specs.declared.runs.Ran.{Ran};
 ghost use Rattle.deneva_top.specs.Sources.{InputIs, WorkIs, FaultIs, IsReadUnless};
 
 use crate::fault_text::write_fault;
@@ -16,6 +17,7 @@ use crate::words::{Command, command_of};
 use crate::workload_text::{ReadError, read_workload};
 use deneva_base::{ByteList, IdList, NoMemory, TxnId};
 use deneva_io::{Put, Sink, Source};
+use replay::{Ran, is_built, replay};
 use report::{serial_outcome, write_report};
 use std::alloc::Global;
 use txn_program::{ProgramList, Workload};
@@ -46,36 +48,85 @@ fn serial_report(alloc: Global, work: &Workload) -> Result<ByteList, NoMemory>
     write_report(alloc, &outcome)
 }
 
-/// What a call answers: the status that it ends with, and the text that it writes.
+/// What a call answers: the status that it ends with, what was run, and the text that it writes.
 #[derive(Drop)]
 struct Answer {
     status: u8,
+    run: Option<Ran>,
     text: ByteList,
+}
+
+impl Answer {
+    /// One with nothing but a text.
+    fn of(alloc: Global, status: u8, text: &[u8]) -> Result<Answer, NoMemory>
+        ensures { IfOk result (λ a. a ≡ record { status = status; run = None; text = text.now }) }
+    {
+        Ok(Answer {
+            status,
+            run: None,
+            text: ByteList::from_bytes(alloc, text)?,
+        })
+    }
+}
+
+/// What the words ask for, if it can be done.
+fn asked(alloc: Global, words: &[String]) -> Result<Option<Command>, NoMemory>
+    ensures { IfOk result (λ job. job ≡ calls.asked (map string_bytes words.now)) }
+{
+    match command_of(alloc, words)? {
+        Some(Command::Replay(config, schedule)) => {
+            if is_built(config.protocol) {
+                Ok(Some(Command::Replay(config, schedule)))
+            } else {
+                Ok(None)
+            }
+        }
+        other => Ok(other),
+    }
+}
+
+/// Does on a workload what is asked.
+fn done(alloc: Global, job: &Command, work: &Workload) -> Result<Answer, NoMemory>
+    requires valid { IsValid work.now }
+    requires asked { (words : List (List ℕ)) × (calls.asked words ≡ Some job.now) }
+    ensures status { IfOk result (λ a. a.status ≡ 0) }
+    ensures reports { IfOk result (λ a. Reports job.now work.now a.run a.text) }
+{
+    match job {
+        Command::Serial => Ok(Answer {
+            status: 0,
+            run: None,
+            text: serial_report(alloc, work)?,
+        }),
+        Command::Replay(config, schedule) => {
+            let run = replay(alloc, *config, work, schedule)?;
+            let text = write_report(alloc, &run.outcome)?;
+            Ok(Answer {
+                status: 0,
+                run: Some(run),
+                text,
+            })
+        }
+    }
 }
 
 /// What the words and the input ask for. Want of memory is an answer of its own.
 fn answer_of<S: Source>(alloc: Global, words: &[String], source: &mut S) -> Result<Answer, NoMemory>
-    ensures answer { IfOk result (λ a. Answers (map string_bytes words.now) (S.left source.old) (S.left source.new) (S.faults source.old) (S.faults source.new) a.status a.text) }
-    ensures unread { calls.command_of (map string_bytes words.now) ≡ None → (S.left source.new ≡ S.left source.old) × (S.faults source.new ≡ S.faults source.old) }
+    ensures answer { IfOk result (λ a. Answers (map string_bytes words.now) (S.left source.old) (S.left source.new) (S.faults source.old) (S.faults source.new) a.status a.run a.text) }
+    ensures unread { calls.asked (map string_bytes words.now) ≡ None → (S.left source.new ≡ S.left source.old) × (S.faults source.new ≡ S.faults source.old) }
 {
-    let Some(Command::Serial) = command_of(words) else {
-        let text = ByteList::from_bytes(alloc, b"fault,words\n")?;
-        return Ok(Answer { status: 2, text });
+    let Some(job) = asked(alloc, words)? else {
+        return Answer::of(alloc, 2, b"fault,words\n");
     };
     match read_workload(alloc, source) {
-        Ok(work) => {
-            let text = serial_report(alloc, &work)?;
-            Ok(Answer { status: 0, text })
-        }
+        Ok(work) => done(alloc, &job, &work),
         Err(ReadError::NoMemory) => Err(NoMemory),
-        Err(ReadError::Fault(fault)) => {
-            let text = write_fault(alloc, fault)?;
-            Ok(Answer { status: 3, text })
-        }
-        Err(ReadError::ReadFault) => {
-            let text = ByteList::from_bytes(alloc, b"fault,read\n")?;
-            Ok(Answer { status: 4, text })
-        }
+        Err(ReadError::Fault(fault)) => Ok(Answer {
+            status: 3,
+            run: None,
+            text: write_fault(alloc, fault)?,
+        }),
+        Err(ReadError::ReadFault) => Answer::of(alloc, 4, b"fault,read\n"),
     }
 }
 
@@ -104,29 +155,47 @@ fn write_all<K: Sink>(sink: &mut K, text: &[u8]) -> bool
 }
 
 /// How a call ended.
-#[derive(Clone, Copy, Debug, PartialEq, Eq)]
+#[derive(Debug, Drop)]
 pub struct Ended {
     /// 0 for the answer that was asked for, 1 for want of memory, 2 for words that give no command, 3 for an input that
     /// is no workload file, 4 where the source failed, and 5 where the sink failed.
     pub status: u8,
+    /// What was run: at status 0 of `replay`, and never else.
+    pub run: Option<Ran>,
 }
 
 /// Writes the text of an answer, and ends with its status.
-fn send<K: Sink>(sink: &mut K, status: u8, text: &[u8]) -> Ended
-    ensures whole { result.status ≢ 5 → (result.status ≡ status) × Grew (K.taken sink.old) (K.taken sink.new) text.now }
-    ensures failed { result.status ≡ 5 → (status ≡ 5) ⊎ (Rose (K.faults sink.old) (K.faults sink.new) × ((at : ℕ) × Grew (K.taken sink.old) (K.taken sink.new) (take at text.now))) }
+fn send<K: Sink>(sink: &mut K, answer: Answer) -> Ended
+    ensures whole { result.status ≢ 5 → (result.status ≡ answer.status) × (result.run ≡ answer.run) × Grew (K.taken sink.old) (K.taken sink.new) answer.text }
+    ensures failed { result.status ≡ 5 → (answer.status ≡ 5) ⊎ ((result.run ≡ None) × Rose (K.faults sink.old) (K.faults sink.new) × ((at : ℕ) × Grew (K.taken sink.old) (K.taken sink.new) (take at answer.text))) }
 {
-    if write_all(sink, text) {
-        Ended { status }
+    if write_all(sink, answer.text.as_slice()) {
+        Ended {
+            status: answer.status,
+            run: answer.run,
+        }
     } else {
-        Ended { status: 5 }
+        Ended {
+            status: 5,
+            run: None,
+        }
     }
+}
+
+/// Says that there was not enough memory.
+fn send_no_memory<K: Sink>(sink: &mut K) -> Ended
+    ensures run { result.run ≡ None }
+    ensures whole { result.status ≢ 5 → (result.status ≡ 1) × Grew (K.taken sink.old) (K.taken sink.new) (codes "fault,memory\n") }
+    ensures failed { result.status ≡ 5 → Rose (K.faults sink.old) (K.faults sink.new) × ((at : ℕ) × Grew (K.taken sink.old) (K.taken sink.new) (take at (codes "fault,memory\n"))) }
+{
+    let status = if write_all(sink, b"fault,memory\n") { 1 } else { 5 };
+    Ended { status, run: None }
 }
 
 /// Runs the command that the words give, over the bytes of a source, and writes its answer to a sink in pieces of at
 /// most 4,096 bytes: the whole text is in memory before its first byte is written. `words` are the arguments without
-/// the program's name. For `serial` the source has a workload file of at most 67,108,864 bytes, and the answer is the
-/// report of its transactions, executed one at a time in file order.
+/// the program's name. The source has a workload file of at most 67,108,864 bytes. For `serial` the answer is the report
+/// of its transactions, executed one at a time in file order; for `replay` that of the run that the words pick.
 pub fn deneva<S: Source, K: Sink>(
     alloc: Global,
     words: &[String],
@@ -135,31 +204,32 @@ pub fn deneva<S: Source, K: Sink>(
 ) -> Ended
     // What each status says, and what was written.
     ensures known { result.status ≤ 5 }
-    ensures report { result.status ≡ 0 → (calls.command_of (map string_bytes words.now) ≡ Some Serial)
-        × IsOver (S.left source.new) × ((work : Workload) × InputIs (S.left source.old) (Ok work) × Grew (K.taken sink.old) (K.taken sink.new) (report_of work)) }
+    ensures report { result.status ≡ 0 → IsOver (S.left source.new) × ((job : Command) × (work : Workload) × (text : List ℕ) × (calls.asked (map string_bytes words.now) ≡ Some job)
+        × InputIs (S.left source.old) (Ok work) × Reports job work result.run text × Grew (K.taken sink.old) (K.taken sink.new) text) }
+    ensures no_run { result.status ≢ 0 → result.run ≡ None }
     ensures memory { result.status ≡ 1 → Grew (K.taken sink.old) (K.taken sink.new) (codes "fault,memory\n") }
-    ensures words { result.status ≡ 2 → (calls.command_of (map string_bytes words.now) ≡ None)
+    ensures words { result.status ≡ 2 → (calls.asked (map string_bytes words.now) ≡ None)
         × Grew (K.taken sink.old) (K.taken sink.new) (codes "fault,words\n") }
-    ensures input { result.status ≡ 3 → (calls.command_of (map string_bytes words.now) ≡ Some Serial)
+    ensures input { result.status ≡ 3 → IsAsked (map string_bytes words.now)
         × ((f : InputFault) × InputIs (S.left source.old) (Err f) × IsReadUnless f (S.left source.new) × Grew (K.taken sink.old) (K.taken sink.new) (fault_line f)) }
-    ensures read { result.status ≡ 4 → (calls.command_of (map string_bytes words.now) ≡ Some Serial)
+    ensures read { result.status ≡ 4 → IsAsked (map string_bytes words.now)
         × Rose (S.faults source.old) (S.faults source.new) × Grew (K.taken sink.old) (K.taken sink.new) (codes "fault,read\n") }
     ensures write { result.status ≡ 5 → Rose (K.faults sink.old) (K.faults sink.new)
-        × ((status : ℕ) × (at : ℕ) × (text : List ℕ) × Answers (map string_bytes words.now) (S.left source.old) (S.left source.new) (S.faults source.old) (S.faults source.new) status text
+        × ((status : ℕ) × (at : ℕ) × (run : Option Ran) × (text : List ℕ) × Answers (map string_bytes words.now) (S.left source.old) (S.left source.new) (S.faults source.old) (S.faults source.new) status run text
         × Grew (K.taken sink.old) (K.taken sink.new) (take at text)) }
 
     // When each comes, but for want of memory.
-    ensures refused { calls.command_of (map string_bytes words.now) ≡ None → (result.status ≡ 2) ⊎ (result.status ≡ 1) ⊎ (result.status ≡ 5) }
-    ensures unread { calls.command_of (map string_bytes words.now) ≡ None → (S.left source.new ≡ S.left source.old) × (S.faults source.new ≡ S.faults source.old) }
-    ensures faulty { calls.command_of (map string_bytes words.now) ≡ Some Serial
+    ensures refused { calls.asked (map string_bytes words.now) ≡ None → (result.status ≡ 2) ⊎ (result.status ≡ 1) ⊎ (result.status ≡ 5) }
+    ensures unread { calls.asked (map string_bytes words.now) ≡ None → (S.left source.new ≡ S.left source.old) × (S.faults source.new ≡ S.faults source.old) }
+    ensures faulty { IsAsked (map string_bytes words.now)
         → (f : InputFault) → FaultIs (S.left source.old) f
         → (result.status ≡ 3) ⊎ (result.status ≡ 1) ⊎ (result.status ≡ 4) ⊎ (result.status ≡ 5) }
-    ensures complete { calls.command_of (map string_bytes words.now) ≡ Some Serial → (work : Workload) → WorkIs (S.left source.old) work
+    ensures complete { IsAsked (map string_bytes words.now) → (work : Workload) → WorkIs (S.left source.old) work
         → (Rose (S.faults source.old) (S.faults source.new) → ⊥) → (Rose (K.faults sink.old) (K.faults sink.new) → ⊥)
         → (result.status ≡ 0) ⊎ (result.status ≡ 1) }
 {
     match answer_of(alloc, words, source) {
-        Ok(answer) => send(sink, answer.status, answer.text.as_slice()),
-        Err(_) => send(sink, 1, b"fault,memory\n"),
+        Ok(answer) => send(sink, answer),
+        Err(_) => send_no_memory(sink),
     }
 }

@@ -9,6 +9,7 @@ mod words;
 pub mod workload_text;
 
 pub use calls::{Ended, deneva};
+pub use replay::Ran;
 
 #[cfg(test)]
 mod tests;

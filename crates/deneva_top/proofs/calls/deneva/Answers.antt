@@ -1,14 +1,15 @@
-use Rattle.std.proofs.Common.{ℕ, List, Option, refl, inl, inr, arith}
+use Rattle.std.proofs.Common.{◌≡◌, ℕ, List, Option, None, refl, arith}
 use Rattle.std.specs.Prelude.{codes}
 use Rattle.deneva_top.specs.Calls.{Answers}
 use Rattle.deneva_top.proofs.calls.deneva.Goals as goal
 
 -- want of memory is an answer to everything
-memory_answers : (words : List (List ℕ)) (bytes bytes_now : Option (List ℕ)) (before now : ℕ) → Answers words bytes bytes_now before now 1 (codes "fault,memory\n")
+memory_answers : (words : List (List ℕ)) (bytes bytes_now : Option (List ℕ)) (before now : ℕ) → Answers words bytes bytes_now before now 1 None (codes "fault,memory\n")
 memory_answers words bytes bytes_now before now =
     record {
       known = omega arith;
       report = λ e. absurd (omega (arith, e));
+      no_run = λ e. refl;
       memory = λ e. refl;
       refused = λ e. absurd (omega (arith, e));
       input = λ e. absurd (omega (arith, e));
@@ -17,7 +18,5 @@ memory_answers words bytes bytes_now before now =
 
 pub returns-in-Err-clause-write : goal.returns-in-Err-clause-write
 returns-in-Err-clause-write g c = λ is.
-    elim (c.send-in-Err.ensures.failed is) [
-      | inl e ↦ absurd (omega (arith, e))
-      | inr sent ↦ (sent.0, (1, sent.1.0, codes "fault,memory\n", memory_answers _ _ _ _ _, sent.1.1))
-    ]
+    let sent = c.send_no_memory.ensures.failed is in
+    (sent.0, (1, sent.1.0, None, codes "fault,memory\n", memory_answers _ _ _ _ _, sent.1.1))
