@@ -188,7 +188,11 @@ fn send_no_memory<K: Sink>(sink: &mut K) -> Ended
     ensures whole { result.status ≢ 5 → (result.status ≡ 1) × Grew (K.taken sink.old) (K.taken sink.new) (codes "fault,memory\n") }
     ensures failed { result.status ≡ 5 → Rose (K.faults sink.old) (K.faults sink.new) × ((at : ℕ) × Grew (K.taken sink.old) (K.taken sink.new) (take at (codes "fault,memory\n"))) }
 {
-    let status = if write_all(sink, b"fault,memory\n") { 1 } else { 5 };
+    let status = if write_all(sink, b"fault,memory\n") {
+        1
+    } else {
+        5
+    };
     Ended { status, run: None }
 }
 

@@ -12,4 +12,6 @@ pub use calls::{Ended, deneva};
 pub use replay::Ran;
 
 #[cfg(test)]
+mod replay_tests;
+#[cfg(test)]
 mod tests;
