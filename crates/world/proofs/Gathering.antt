@@ -31,7 +31,7 @@ use Rattle.world.specs.Gathered.{Gathered, AreRowsOf}
 use Rattle.world.proofs.Delivering.{push_cases}
 use Rattle.world.specs.Worlds.{Seen, IsRunning, HasNodes}
 use Rattle.world.proofs.Joined.{joined-append}
-use Rattle.world.proofs.Openings.{partition_below}
+use Rattle.txn_program.proofs.Participants.{partition_below}
 
 -- a key that the first rows have not is looked for in the others
 row_of-right : (a b : List Keyed) (key : Key) → row_of a key ≡ None → row_of (a ++ b) key ≡ row_of b key

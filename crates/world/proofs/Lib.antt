@@ -2,7 +2,6 @@ mod Joined
 mod Positions
 mod Delivering
 mod AnyRuns
-mod Openings
 mod Running
 mod Gathering
 mod Alike

@@ -16,7 +16,7 @@ ghost use Rattle.world.specs.Worlds.{HasNodes, IsRunning, seen};
 
 use crate::finishing::{gather, in_key_order};
 use crate::flight::Flight;
-use crate::opening::opening;
+use crate::opening::first_flight;
 use crate::picker::Picker;
 use crate::settling::settle;
 use deneva_base::{Config, Items, NoMemory, RowList};
@@ -96,7 +96,7 @@ impl<'w, S: Server<'w>> World<'w, S> {
         ensures work { IfOk result (λ w. w.work ≡ work.now) }
         ensures progress { IfOk result (λ w. w.progress ≡ begun config work.now) }
     {
-        let flight = opening(alloc, config, work)?;
+        let flight = first_flight(alloc, config, work)?;
         let nodes = fresh_nodes(alloc, config, work)?;
         Ok(World {
             alloc,
