@@ -1,3 +1,4 @@
 pub mod Records
 pub mod ReportText
 pub mod SerialOutcome
+pub mod WithRows
