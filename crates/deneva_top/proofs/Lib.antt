@@ -11,3 +11,4 @@ pub mod RecordText
 pub mod Steps
 pub mod ValidFiles
 pub mod WrittenRecords
+mod Asked
