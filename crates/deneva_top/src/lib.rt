@@ -3,6 +3,7 @@
 
 mod calls;
 mod fault_text;
+mod numbers;
 mod ordered_rows;
 pub mod serial_model;
 mod words;
