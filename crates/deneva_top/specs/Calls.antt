@@ -1,24 +1,17 @@
 -- What the top call answers and writes.
-use Rattle.std.specs.Prelude.{◌≡◌, ℕ, ◌≤◌, List, [], ◌∷◌, if◌then◌else◌, codes, decimal, Option, Some, None, Ok, Err}
-use Rattle.std.specs.Str.{bytes_eq}
+use Rattle.std.specs.Prelude.{◌≡◌, ◌≢◌, ℕ, ◌≤◌, List, [], ◌∷◌, codes, decimal, Option, Some, Ok, Err}
 use Rattle.deneva_io.specs.Streams.{Rose, IsOver}
 use Rattle.txn_program.specs.declared.programs.Workload.{Workload}
 use Rattle.txn_program.specs.Serial.{serial, all_ids}
-use Rattle.deneva_top.specs.declared.words.Command.{Command}
 use Rattle.deneva_top.specs.declared.words.Command.TheVariants.{Serial}
 use Rattle.deneva_top.specs.declared.workload_text.faults.FaultKind.{FaultKind}
 use Rattle.deneva_top.specs.declared.workload_text.faults.FaultKind.TheVariants.{Magic, Kind, Arity, NotANumber, OutOfRange, UnknownKey, Repeated, TooMany, NoEnd, Trailing, TooLong}
 use Rattle.deneva_top.specs.declared.workload_text.faults.InputFault.{InputFault}
 use Rattle.deneva_top.specs.Sources.{InputIs, IsReadUnless}
+pub use Rattle.deneva_top.specs.Words.{command_of}
 use Rattle.report.specs.Records.{Record, line_of}
 use Rattle.report.specs.ReportText.{report_text}
 use Rattle.report.specs.SerialOutcome.{serial_outcome}
-
--- the command that words give, if they give one: exactly the word `serial`
-abbrev pub command_of : List (List ℕ) → Option Command
-command_of [] = None
-command_of (word ∷ []) = if bytes_eq word (codes "serial") then Some Serial else None
-command_of (word ∷ other ∷ words) = None
 
 -- the last fields of a fault
 abbrev pub kind_fields : FaultKind → Record
@@ -50,6 +43,6 @@ pub record Answers (words : List (List ℕ)) (bytes bytes_now : Option (List ℕ
   pub known : status ≤ 4
   pub report : status ≡ 0 → (command_of words ≡ Some Serial) × IsOver bytes_now × ((work : Workload) × InputIs bytes (Ok work) × (text ≡ report_of work))
   pub memory : status ≡ 1 → text ≡ codes "fault,memory\n"
-  pub refused : status ≡ 2 → (command_of words ≡ None) × (text ≡ codes "fault,words\n")
+  pub refused : status ≡ 2 → (command_of words ≢ Some Serial) × (text ≡ codes "fault,words\n")
   pub input : status ≡ 3 → (command_of words ≡ Some Serial) × ((f : InputFault) × InputIs bytes (Err f) × IsReadUnless f bytes_now × (text ≡ fault_line f))
   pub read : status ≡ 4 → (command_of words ≡ Some Serial) × Rose faults faults_now × (text ≡ codes "fault,read\n")

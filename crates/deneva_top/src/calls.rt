@@ -56,9 +56,9 @@ struct Answer {
 /// What the words and the input ask for. Want of memory is an answer of its own.
 fn answer_of<S: Source>(alloc: Global, words: &[String], source: &mut S) -> Result<Answer, NoMemory>
     ensures answer { IfOk result (λ a. Answers (map string_bytes words.now) (S.left source.old) (S.left source.new) (S.faults source.old) (S.faults source.new) a.status a.text) }
-    ensures unread { calls.command_of (map string_bytes words.now) ≡ None → (S.left source.new ≡ S.left source.old) × (S.faults source.new ≡ S.faults source.old) }
+    ensures unread { calls.command_of (map string_bytes words.now) ≢ Some Serial → (S.left source.new ≡ S.left source.old) × (S.faults source.new ≡ S.faults source.old) }
 {
-    let Some(Command::Serial) = command_of(words) else {
+    let Some(Command::Serial) = command_of(alloc, words)? else {
         let text = ByteList::from_bytes(alloc, b"fault,words\n")?;
         return Ok(Answer { status: 2, text });
     };
@@ -138,7 +138,7 @@ pub fn deneva<S: Source, K: Sink>(
     ensures report { result.status ≡ 0 → (calls.command_of (map string_bytes words.now) ≡ Some Serial)
         × IsOver (S.left source.new) × ((work : Workload) × InputIs (S.left source.old) (Ok work) × Grew (K.taken sink.old) (K.taken sink.new) (report_of work)) }
     ensures memory { result.status ≡ 1 → Grew (K.taken sink.old) (K.taken sink.new) (codes "fault,memory\n") }
-    ensures words { result.status ≡ 2 → (calls.command_of (map string_bytes words.now) ≡ None)
+    ensures words { result.status ≡ 2 → (calls.command_of (map string_bytes words.now) ≢ Some Serial)
         × Grew (K.taken sink.old) (K.taken sink.new) (codes "fault,words\n") }
     ensures input { result.status ≡ 3 → (calls.command_of (map string_bytes words.now) ≡ Some Serial)
         × ((f : InputFault) × InputIs (S.left source.old) (Err f) × IsReadUnless f (S.left source.new) × Grew (K.taken sink.old) (K.taken sink.new) (fault_line f)) }
@@ -149,8 +149,8 @@ pub fn deneva<S: Source, K: Sink>(
         × Grew (K.taken sink.old) (K.taken sink.new) (take at text)) }
 
     // When each comes, but for want of memory.
-    ensures refused { calls.command_of (map string_bytes words.now) ≡ None → (result.status ≡ 2) ⊎ (result.status ≡ 1) ⊎ (result.status ≡ 5) }
-    ensures unread { calls.command_of (map string_bytes words.now) ≡ None → (S.left source.new ≡ S.left source.old) × (S.faults source.new ≡ S.faults source.old) }
+    ensures refused { calls.command_of (map string_bytes words.now) ≢ Some Serial → (result.status ≡ 2) ⊎ (result.status ≡ 1) ⊎ (result.status ≡ 5) }
+    ensures unread { calls.command_of (map string_bytes words.now) ≢ Some Serial → (S.left source.new ≡ S.left source.old) × (S.faults source.new ≡ S.faults source.old) }
     ensures faulty { calls.command_of (map string_bytes words.now) ≡ Some Serial
         → (f : InputFault) → FaultIs (S.left source.old) f
         → (result.status ≡ 3) ⊎ (result.status ≡ 1) ⊎ (result.status ≡ 4) ⊎ (result.status ≡ 5) }

@@ -4,8 +4,10 @@
 mod calls;
 mod fault_text;
 mod numbers;
+mod options;
 mod ordered_rows;
 pub mod serial_model;
+mod values;
 mod words;
 pub mod workload_text;
 
