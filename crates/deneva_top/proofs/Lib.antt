@@ -3,7 +3,9 @@ pub mod Decimals
 pub mod FileOf
 pub mod FileRecords
 pub mod Ids
+pub mod ListedNumbers
 pub mod Onward
+pub mod OptionPairs
 pub mod Plain
 pub mod Puts
 pub mod Quotes

@@ -4,6 +4,7 @@ pub mod Grammar
 pub mod Files
 pub mod Gives
 pub mod Numbers
+pub mod Options
 pub mod Reader
 pub mod Sources
 pub mod Words

@@ -1,4 +1,4 @@
--- Unsigned numbers of a file.
+-- Unsigned numbers in texts.
 use Rattle.std.specs.Prelude.{ℕ, ◌+◌, ◌-◌, ◌*◌, ◌==◌, List, [], ◌∷◌, Bool, false, not, ◌&&◌, nat_le, if◌then◌else◌, Result, Ok, Err}
 use Rattle.std.specs.List.{list_all, fold}
 use Rattle.deneva_top.specs.declared.workload_text.faults.FaultKind.{FaultKind}

@@ -3,8 +3,11 @@
 
 mod calls;
 mod fault_text;
+mod numbers;
+mod options;
 mod ordered_rows;
 pub mod serial_model;
+mod values;
 mod words;
 pub mod workload_text;
 

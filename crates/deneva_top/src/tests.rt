@@ -1,4 +1,6 @@
 //! Whole calls over memory: words and bytes in, status and bytes out.
+mod words;
+
 use crate::deneva;
 use crate::serial_model::run_serial;
 use crate::workload_text::{

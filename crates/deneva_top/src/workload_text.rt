@@ -4,7 +4,6 @@ mod faults;
 mod heads;
 mod laws;
 mod lines;
-mod numbers;
 mod quotes;
 mod reader;
 mod records;

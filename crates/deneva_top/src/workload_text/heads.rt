@@ -4,8 +4,8 @@ ghost use Rattle.std.specs.Str.{bytes_eq};
 ghost use Rattle.deneva_top.specs.Grammar as grammar;
 ghost use Rattle.deneva_top.specs.declared.workload_text.faults.RecordError.TheVariants as errors;
 
+use crate::numbers::number_within;
 use crate::workload_text::faults::{FaultKind, Flaw, RecordError};
-use crate::workload_text::numbers::number_within;
 
 /// The format of a file. Format 2 has the step `p` beside those of format 1.
 #[derive(Clone, Copy, Debug, PartialEq, Eq)]

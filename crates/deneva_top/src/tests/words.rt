@@ -1,0 +1,198 @@
+//! Words, and the commands that they give.
+use crate::words::{Command, command_of};
+use deneva_base::{Config, CountList, NoMemory, Protocol};
+use server_core::Schedule;
+use std::alloc::Global;
+use std::test::Fail;
+
+/// The command of a line, whose words one space parts.
+fn command(alloc: Global, line: &str) -> Result<Option<Command>, NoMemory> {
+    let mut words = Vec::new(alloc);
+    for word in line.split(' ') {
+        words.push(String::from_str(alloc, word)?)?;
+    }
+    command_of(alloc, &words)
+}
+
+#[test]
+fn the_options_are_in_any_order(rt: HostRuntime) -> Result<(), Fail> {
+    let cases = [
+        ("replay --protocol nowait", 1, 8, 16),
+        ("replay --protocol nowait --partitions 1", 1, 8, 16),
+        ("replay --partitions 16 --protocol nowait", 16, 8, 16),
+        ("replay --protocol nowait --attempts 1", 1, 1, 16),
+        ("replay --attempts 8 --protocol nowait", 1, 8, 16),
+        ("replay --protocol nowait --limit 1", 1, 8, 1),
+        ("replay --limit 64 --protocol nowait", 1, 8, 64),
+        (
+            "replay --limit 2 --attempts 3 --order fifo --partitions 10 --protocol nowait",
+            10,
+            3,
+            2,
+        ),
+    ];
+    for (line, parts, attempts, limit) in cases {
+        let config = Config {
+            protocol: Protocol::NoWait,
+            parts,
+            attempts,
+            limit,
+        };
+        assert_eq!(rt;
+            command(rt.alloc(), line)?,
+            Some(Command::Replay(config, Schedule::Fifo))
+        );
+    }
+    Ok(())
+}
+
+/// A run with the defaults.
+fn plain(protocol: Protocol, schedule: Schedule) -> Option<Command> {
+    let config = Config {
+        protocol,
+        parts: 1,
+        attempts: 8,
+        limit: 16,
+    };
+    Some(Command::Replay(config, schedule))
+}
+
+#[test]
+fn each_protocol_has_its_word(rt: HostRuntime) -> Result<(), Fail> {
+    let cases = [
+        ("replay --protocol nowait", Protocol::NoWait),
+        ("replay --protocol waitdie", Protocol::WaitDie),
+        ("replay --protocol timestamp", Protocol::Timestamp),
+        ("replay --protocol mvcc", Protocol::Mvcc),
+        ("replay --protocol maat", Protocol::Maat),
+        ("replay --protocol calvin", Protocol::Calvin),
+    ];
+    for (line, protocol) in cases {
+        assert_eq!(rt; command(rt.alloc(), line)?, plain(protocol, Schedule::Fifo));
+    }
+    Ok(())
+}
+
+#[test]
+fn an_order_is_a_schedule(rt: HostRuntime) -> Result<(), Fail> {
+    let cases = [
+        ("replay --order fifo --protocol mvcc", Schedule::Fifo),
+        ("replay --order lifo --protocol mvcc", Schedule::Lifo),
+        ("replay --order seed:0 --protocol mvcc", Schedule::Seed(0)),
+        (
+            "replay --order seed:4294967296 --protocol mvcc",
+            Schedule::Seed(4_294_967_296),
+        ),
+        (
+            "replay --order seed:18446744073709551615 --protocol mvcc",
+            Schedule::Seed(u64::MAX),
+        ),
+    ];
+    for (line, schedule) in cases {
+        assert_eq!(rt; command(rt.alloc(), line)?, plain(Protocol::Mvcc, schedule));
+    }
+    Ok(())
+}
+
+fn listed(alloc: Global, numbers: &[u32]) -> Result<Schedule, NoMemory> {
+    let mut list = CountList::new(alloc);
+    for number in numbers {
+        list.push(*number)?;
+    }
+    Ok(Schedule::Listed(list))
+}
+
+/// A line with an order of so many numbers 7.
+fn sevens(alloc: Global, count: usize) -> Result<String, NoMemory> {
+    let mut line = String::from_str(alloc, "replay --protocol maat --order list:7")?;
+    for _ in 1..count {
+        line.push_str(".7")?;
+    }
+    Ok(line)
+}
+
+#[test]
+fn an_order_lists_numbers(rt: HostRuntime) -> Result<(), Fail> {
+    let one = command(rt.alloc(), "replay --protocol maat --order list:0")?;
+    assert_eq!(rt; one, plain(Protocol::Maat, listed(rt.alloc(), &[0])?));
+    let three = command(
+        rt.alloc(),
+        "replay --protocol maat --order list:2.4294967295.1",
+    )?;
+    assert_eq!(rt;
+        three,
+        plain(Protocol::Maat, listed(rt.alloc(), &[2, u32::MAX, 1])?)
+    );
+    let most = command(rt.alloc(), sevens(rt.alloc(), 1_000)?.as_str())?;
+    assert_eq!(rt;
+        most,
+        plain(Protocol::Maat, listed(rt.alloc(), &[7; 1_000])?)
+    );
+    let too_many = command(rt.alloc(), sevens(rt.alloc(), 1_001)?.as_str())?;
+    assert_eq!(rt; too_many, None);
+    Ok(())
+}
+
+#[test]
+fn other_words_give_no_command(rt: HostRuntime) -> Result<(), Fail> {
+    for line in [
+        "",
+        "run",
+        "Serial",
+        "serial serial",
+        "serial --protocol nowait",
+        "replay",
+        "replay serial",
+        "--protocol nowait",
+        // Values beyond their ranges, or none.
+        "replay --protocol nowait --partitions 0",
+        "replay --protocol nowait --partitions 17",
+        "replay --protocol nowait --partitions 01",
+        "replay --protocol nowait --partitions +1",
+        "replay --protocol nowait --partitions -1",
+        "replay --protocol nowait --partitions 4294967297",
+        "replay --protocol nowait --partitions ",
+        "replay --protocol nowait --attempts 0",
+        "replay --protocol nowait --attempts 9",
+        "replay --protocol nowait --limit 0",
+        "replay --protocol nowait --limit 65",
+        "replay --protocol NoWait",
+        "replay --protocol serial",
+        "replay --protocol ",
+        // Options that are required, repeated, unknown, without a value or of another form.
+        "replay --partitions 2",
+        "replay --protocol nowait --protocol nowait",
+        "replay --protocol nowait --partitions 2 --partitions 3",
+        "replay --protocol nowait --workers 2",
+        "replay --protocol nowait --part 2",
+        "replay --protocol nowait partitions 2",
+        "replay --protocol nowait --help",
+        "replay --protocol nowait --brief",
+        "replay --protocol nowait --",
+        "replay --protocol nowait -- --partitions 2",
+        "replay --protocol nowait --partitions",
+        "replay --protocol nowait --partitions=2",
+        "replay --protocol=nowait",
+        "replay --protocol",
+        "replay nowait --protocol",
+        // Orders.
+        "replay --protocol nowait --order random",
+        "replay --protocol nowait --order seed",
+        "replay --protocol nowait --order seed:",
+        "replay --protocol nowait --order seed:07",
+        "replay --protocol nowait --order seed:18446744073709551616",
+        "replay --protocol nowait --order list",
+        "replay --protocol nowait --order list:",
+        "replay --protocol nowait --order list:.",
+        "replay --protocol nowait --order list:1..2",
+        "replay --protocol nowait --order list:1.2.",
+        "replay --protocol nowait --order list:1,2",
+        "replay --protocol nowait --order list:00",
+        "replay --protocol nowait --order list:4294967296",
+    ] {
+        assert_eq!(rt; command(rt.alloc(), line)?, None);
+    }
+    assert_eq!(rt; command_of(rt.alloc(), &[])?, None);
+    assert_eq!(rt; command(rt.alloc(), "serial")?, Some(Command::Serial));
+    Ok(())
+}
