@@ -1,4 +1,3 @@
 pub mod Records
 pub mod ReportText
 pub mod SerialOutcome
-pub mod WithRows

@@ -5,14 +5,12 @@
 mod aborts;
 mod decided;
 mod fields;
-mod outcomes;
 mod rows;
 mod serial;
 #[cfg(test)]
 mod tests;
 mod texts;
 
-pub use outcomes::outcome_of;
 pub use fields::{push_field, push_number_field};
 pub use serial::serial_outcome;
 pub use server_core::{AbortLine, Decided, Giveup, Outcome, RunKind};
