@@ -5,6 +5,7 @@
 mod aborts;
 mod decided;
 mod fields;
+mod outcomes;
 mod rows;
 mod serial;
 #[cfg(test)]

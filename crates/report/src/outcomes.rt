@@ -1,0 +1,4 @@
+//! What came of a run.
+
+mod groups;
+mod replies;
