@@ -101,3 +101,9 @@ module _ {G : Type 0} (view : G → List Entry) (gs : List G) (n : ℕ) (H : Lis
       ∙ ap (λ g. set (map view gs) p g) (put ∙ ap (λ g. view g ++ e ∷ []) at ∙ ap (λ g. g ++ e ∷ []) (sym (get_or-map view gs p old)))
       ∙ ap (λ l. set l p (get_or l p (view old) ++ e ∷ [])) are
       ∙ group_more H e n x (view old) is low (subst (λ m. x.0 ≤ m) group_count high)
+
+  -- the group at a place
+  pub group_at : (g : G) (k : ℕ) → k < length gs → g ≡ get_or gs k g → view g ≡ entries_of (record { 0 = k + 1 }) H
+  group_at g k less at =
+      ap view at ∙ sym (get_or-map view gs k g) ∙ ap (λ l. get_or l k (view g)) are
+      ∙ at_below (λ k. entries_of (record { 0 = k + 1 }) H) n k (view g) (subst (λ m. k < m) group_count less)

@@ -1,4 +1,8 @@
 //! What came of a run.
 
+mod ballots;
 mod groups;
+mod partitions;
 mod replies;
+mod run;
+mod stories;
