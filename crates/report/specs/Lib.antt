@@ -1,3 +1,4 @@
+pub mod ByTransaction
 pub mod Naming
 pub mod Placed
 pub mod Records
