@@ -2,29 +2,37 @@
 use Rattle.std.proofs.Common.{◌≡◌, ℕ, zero, suc, ◌+◌, min, List, [], ◌∷◌, map, length, reverse, take, Bool, true, false, cond, refl, sym, ap, ◌∙◌, ◌&&◌, ap₂, arith}
 use Rattle.std.proofs.lemmas.List.{length-map, length-reverse, take_min}
 use Rattle.std.proofs.Math.Nat.{min_comm}
+use Rattle.deneva_base.specs.Modes.{reads}
 use Rattle.deneva_base.specs.Rows.{Row}
 use Rattle.deneva_base.specs.declared.keys.Access.{Access}
 use Rattle.deneva_base.specs.declared.numbers.Attempt.{Attempt}
-use Rattle.txn_program.specs.Transactions.{accesses}
-use Rattle.server_core.specs.Coordinator.{asked_parts, told}
+use Rattle.deneva_base.specs.declared.rows.Keyed.{Keyed}
+use Rattle.server_core.specs.Coordinator.{asked_parts, told, reads_of}
 use Rattle.server_core.specs.Ends as ends
 use Rattle.server_core.specs.Ends.{attempt, at_home, dones_for, undones_for}
+use Rattle.server_core.specs.Outcome.{committed_n, decided_as, line_of}
 use Rattle.server_core.specs.Replies.{Reply, grants_for, refused_for, started_for, all_closed}
 use Rattle.server_core.specs.Runs.{heard}
 use Rattle.server_core.specs.Setting.{home, parts_for, take_first}
 use Rattle.server_core.specs.declared.messages.Entry.{Entry}
 use Rattle.server_core.specs.declared.messages.Msg.{Msg}
 use Rattle.report.specs.Naming.{is_about, entries_of}
-use Rattle.report.specs.Placed.{ArePlaced}
+use Rattle.report.specs.Rereads.{reply_of}
 use Rattle.report.specs.Stories.{Tells, setting_of}
 use Rattle.report.specs.declared.outcomes.run.Run.{Run}
 use Rattle.report.specs.declared.outcomes.stories.Story.{Story}
-use Rattle.report.proofs.Locals.{Skips, skipped, heard_of, started_skips, refused_skips, grants_skip, dones_skip, undones_skip}
+use Rattle.report.proofs.Locals.{Skips, skipped, heard_of, started_skips, refused_skips, grants_skip, dones_skip, undones_skip, number_skips}
 
 first_ones : {A : Type 0} (n : ℕ) (xs : List A) → take_first n xs ≡ take n xs
 first_ones zero xs = refl
 first_ones (suc n) [] = refl
 first_ones (suc n) (x ∷ xs) = ap (λ l. x ∷ l) (first_ones n xs)
+
+-- the reads take the rows of the replies alone
+reads_again : (list : List Access) (rs : List Reply) → reads_of list (map reply_of (map (λ r. r.row) rs)) ≡ reads_of list rs
+reads_again [] rs = refl
+reads_again (a ∷ list) [] = refl
+reads_again (a ∷ list) (r ∷ rs) = ap (λ l. cond (reads a.mode) (record { key = a.key; row = r.row } ∷ l) l) (reads_again list rs)
 
 module _ (r : Run) (H : List Entry) (t : Story) (k : Tells r H t) where
   abbrev ms : List Msg
@@ -68,3 +76,10 @@ module _ (r : Run) (H : List Entry) (t : Story) (k : Tells r H t) where
 
     pub undone_told : (qs : List ℕ) → qs ≡ told (setting_of r) (at_home (setting_of r) H who) who → (started_for who ms && all_closed (undones_for who ms) qs) ≡ ends.all_undone (setting_of r) H who
     undone_told qs e = ap₂ (λ a b. a && b) (of_messages (started_for who) (started_skips who)) (ap₂ all_closed (of_messages (undones_for who) (undones_skip who)) e)
+
+    -- its line, with these reads
+    pub line_told : (n : ℕ) (rows : List Row) (reads : List Keyed) → n ≡ committed_n who (map (λ e. e.now) t.entries.items) → rows ≡ map (λ r. r.row) (reverse (grants_for who ms)) → reads ≡ reads_of t.accesses (map reply_of rows) → decided_as (setting_of r) t.id n reads ≡ line_of (setting_of r) H who
+    line_told n rows reads number granted are =
+        let grants = of_messages (grants_for who) (grants_skip who) in
+        ap₂ (decided_as (setting_of r) t.id) (number ∙ of_entries (committed_n who) (number_skips who))
+        (are ∙ ap₂ reads_of k.accesses (ap (map reply_of) granted) ∙ reads_again ((setting_of r).accesses t.id) (reverse (grants_for who ms)) ∙ ap (λ l. reads_of ((setting_of r).accesses t.id) (reverse l)) grants)

@@ -3,6 +3,7 @@ pub mod Naming
 pub mod Placed
 pub mod Records
 pub mod ReportText
+pub mod Rereads
 pub mod Seen
 pub mod SerialOutcome
 pub mod Stories

@@ -1,6 +1,7 @@
 //! What came of a run.
 
 mod ballots;
+mod decisions;
 mod ends;
 mod groups;
 mod partitions;

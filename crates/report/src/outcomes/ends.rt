@@ -1,5 +1,5 @@
 //! How the attempts of a transaction ended.
-ghost use Rattle.std.specs.Prelude.{◌≡◌, List, IfOk, option_to_list};
+ghost use Rattle.std.specs.Prelude.{◌≡◌, List, IfOk, option_map, option_to_list};
 ghost use Rattle.server_core.specs.Coordinator as coordinator;
 ghost use Rattle.server_core.specs.Ends as ends;
 ghost use Rattle.server_core.specs.declared.messages.Entry as messages;
@@ -30,14 +30,14 @@ impl Story<'_> {
         started_for(who, &self.messages) && all_done(who, self.parts.as_slice(), &self.messages)
     }
 
-    /// The attempt of a turn up to `turns` that is decided.
-    pub(crate) fn done_turn(&self, turns: u8) -> Option<Attempt>
-        ensures { (r : runs.Run) (H : List messages.Entry) → Tells r H self.now → result ≡ ends.done_turn (setting_of r) H self.now.id turns }
+    /// The turn up to `turns` whose attempt is decided.
+    pub(crate) fn done_turn(&self, turns: u8) -> Option<u8>
+        ensures { (r : runs.Run) (H : List messages.Entry) → Tells r H self.now → option_map (ends.attempt self.now.id) result ≡ ends.done_turn (setting_of r) H self.now.id turns }
     {
         if turns == 0 {
             None
         } else if self.is_done(turns) {
-            Some(self.attempt(turns))
+            Some(turns)
         } else {
             self.done_turn(turns - 1)
         }
