@@ -1,3 +1,4 @@
+pub mod Aborting
 pub mod Counts
 pub mod Groups
 pub mod Lines

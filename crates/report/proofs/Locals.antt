@@ -39,7 +39,7 @@ heard_of p x (e ∷ H) = go (is_about x e.msg) refl (eqb e.node p) refl (heard_o
     go false is false at h = h
 
 module _ (who : Attempt) where
-  other : (x : Attempt) → id_eq x.txn who.txn ≡ false → attempt_eq x who ≡ false
+  pub other : (x : Attempt) → id_eq x.txn who.txn ≡ false → attempt_eq x who ≡ false
   other x e = ap (λ b. b && (x.turn == who.turn)) e
 
   pub started_skips : Skips (is_about who.txn) (started_for who)

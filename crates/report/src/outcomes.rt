@@ -1,7 +1,8 @@
 //! What came of a run.
 
+mod abort_lines;
 mod ballots;
-mod decisions;
+mod decided_lines;
 mod ends;
 mod groups;
 mod partitions;
