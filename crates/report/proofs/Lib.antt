@@ -1,7 +1,9 @@
 pub mod Aborting
 pub mod Counts
+pub mod Gathering
 pub mod Groups
 pub mod Lines
 pub mod Locals
+pub mod NumberOrder
 pub mod Places
 pub mod Telling

@@ -5,6 +5,7 @@ mod ballots;
 mod decided_lines;
 mod ends;
 mod groups;
+mod lists;
 mod partitions;
 mod replies;
 mod run;
