@@ -7,3 +7,4 @@ pub mod Locals
 pub mod NumberOrder
 pub mod Places
 pub mod Telling
+pub mod VotedOutcomes

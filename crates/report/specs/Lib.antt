@@ -1,5 +1,6 @@
 pub mod ByTransaction
 pub mod Naming
+pub mod Outcomes
 pub mod Placed
 pub mod Records
 pub mod ReportText

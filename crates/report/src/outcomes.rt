@@ -10,3 +10,4 @@ mod partitions;
 mod replies;
 mod run;
 mod stories;
+mod voting;

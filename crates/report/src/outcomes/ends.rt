@@ -67,7 +67,7 @@ impl Story<'_> {
     }
 
     /// Whether the attempt of this turn has aborted wherever its end was said.
-    fn is_undone(&self, run: Run<'_>, turn: u8) -> Result<bool, NoMemory>
+    pub(crate) fn is_undone(&self, run: Run<'_>, turn: u8) -> Result<bool, NoMemory>
         requires { ArePlaced self.now.accesses }
         ensures { IfOk result (λ undone. (H : List messages.Entry) → Tells run.entry H self.now → undone ≡ ends.all_undone (setting_of run.entry) H (ends.attempt self.now.id turn)) }
     {
