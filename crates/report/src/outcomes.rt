@@ -6,6 +6,7 @@ mod decided_lines;
 mod ends;
 mod groups;
 mod lists;
+mod ordered;
 mod partitions;
 mod replies;
 mod run;
