@@ -1,5 +1,6 @@
 pub mod Aborting
 pub mod Counts
+pub mod Finished
 pub mod Gathering
 pub mod Groups
 pub mod Lines

@@ -1,5 +1,5 @@
 -- Transactions that Calvin finished.
-use Rattle.std.specs.Prelude.{ℕ, Bool, List, map}
+use Rattle.std.specs.Prelude.{◌≡◌, ℕ, Bool, List, map}
 use Rattle.std.specs.List.{filter, list_all}
 use Rattle.deneva_base.specs.Partitions.{partition_of}
 use Rattle.deneva_base.specs.Rows.{row_at}
@@ -7,11 +7,11 @@ use Rattle.deneva_base.specs.declared.keys.Access.{Access}
 use Rattle.deneva_base.specs.declared.numbers.TxnId.{TxnId}
 use Rattle.deneva_base.specs.declared.rows.Keyed.{Keyed}
 use Rattle.txn_program.specs.Transactions.{reading}
-use Rattle.server_core.specs.GlobalOrder.{number}
+use Rattle.server_core.specs.GlobalOrder.{index_of, number}
 use Rattle.server_core.specs.Ordered.{has_finished, rows_from, collected}
 use Rattle.server_core.specs.Outcome.{decided_as}
 use Rattle.server_core.specs.Runs.{heard}
-use Rattle.server_core.specs.Setting.{Setting, home, parts_for}
+use Rattle.server_core.specs.Setting.{Setting, home, homes, parts_for}
 use Rattle.server_core.specs.declared.messages.Entry.{Entry}
 use Rattle.server_core.specs.declared.messages.Msg.{Msg}
 use Rattle.server_core.specs.declared.outcomes.Decided.{Decided}
@@ -29,3 +29,7 @@ finished_line s H x = decided_as s x (number s x).n (collected s (heard (home s 
 -- the lines of the finished ones of these transactions
 abbrev pub finished_lines_of : Setting → List Entry → List TxnId → List Decided
 finished_lines_of s H xs = map (finished_line s H) (filter (is_finished s H) xs)
+
+-- so many home transactions of its node stand before it
+abbrev pub IsPlace : Setting → TxnId → ℕ → Type 0
+IsPlace s x place = index_of x (homes s (home s x)) ≡ place

@@ -1,4 +1,5 @@
 pub mod ByTransaction
+pub mod Counting
 pub mod Finishing
 pub mod Naming
 pub mod Outcomes

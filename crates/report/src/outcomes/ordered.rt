@@ -3,11 +3,12 @@ ghost use Rattle.std.specs.Prelude.{◌≡◌, ◌↔◌, ◌<◌, ◌≤◌, �
 ghost use Rattle.std.specs.List.{All, list_all};
 ghost use Rattle.deneva_base.specs.Rows as base_rows;
 ghost use Rattle.deneva_base.specs.declared.config.Protocol.TheVariants.{Calvin};
+ghost use Rattle.txn_program.specs.Serial.{all_ids};
 ghost use Rattle.server_core.specs.GlobalOrder.{numbered};
 ghost use Rattle.server_core.specs.Ordered as ordered;
 ghost use Rattle.server_core.specs.Outcome.{outcome};
 ghost use Rattle.server_core.specs.declared.messages.Entry as messages;
-ghost use Rattle.report.specs.Finishing.{gathered, finished_lines_of};
+ghost use Rattle.report.specs.Finishing.{gathered, finished_line, finished_lines_of, IsPlace};
 ghost use Rattle.report.specs.Outcomes.{with_rows, IsOver};
 ghost use Rattle.report.specs.Placed.{ArePlaced};
 ghost use Rattle.report.specs.Stories.{Tells, setting_of};
@@ -110,4 +111,57 @@ impl Story<'_> {
     {
         all_finished(self.id, self.parts.as_slice(), &self.messages)
     }
+
+    /// The line of the transaction, which every participant has finished, at this place among those of its home.
+    fn finished_line(&self, run: Run<'_>, place: u64) -> Result<Decided, NoMemory>
+        requires place { place ≤ 10000 }
+        requires placed { ArePlaced self.now.accesses }
+        ensures { IfOk result (λ line. (H : List messages.Entry) → Tells run.entry H self.now → IsPlace (setting_of run.entry) self.now.id place → line ≡ finished_line (setting_of run.entry) H self.now.id) }
+    {
+        let n = number_of(run.config.parts, self.home, place);
+        let reads = collected(run, self.id, self.accesses.as_slice(), &self.messages)?;
+        let line = self.decided_as(run, n, reads)?;
+        Ok(line)
+    }
+}
+
+/// The lines of the finished transactions.
+fn finished_lines(run: Run<'_>, stories: &[Story<'_>]) -> Result<DecidedList, NoMemory>
+    requires few { length stories.now ≤ 10000 }
+    requires placed { All (λ t. ArePlaced t.accesses) stories.now }
+    requires homes { All (λ t. t.home < run.config.parts) stories.now }
+    ensures { IfOk result (λ list. (H : List messages.Entry) → All (Tells run.entry H) stories.now → map (λ t. t.id) stories.now ≡ all_ids run.entry.work.now → list ≡ finished_lines_of (setting_of run.entry) H (all_ids run.entry.work.now)) }
+{
+    let mut places = vec![in run.alloc; 0_u64; usize::from(run.config.parts)]?;
+    let mut list = DecidedList::new(run.alloc);
+    for story in stories {
+        let home = usize::from(story.home);
+        let place = places[home];
+        places[home] = place + 1;
+        if story.is_finished() {
+            list.push(story.finished_line(run, place)?)?;
+        }
+    }
+    Ok(list)
+}
+
+/// The outcome of a history, with these rows.
+pub(crate) fn ordered_outcome(
+    run: Run<'_>,
+    history: &[Entry],
+    rows: RowList,
+) -> Result<Outcome, NoMemory>
+    requires { run.config.protocol ≡ Calvin }
+    ensures { IfOk result (λ o. o ≡ with_rows (outcome run.entry.config run.entry.work.now (reverse history.now)) rows) }
+{
+    let stories = stories_of(run, history)?;
+    let decided = in_number_order(finished_lines(run, &stories)?)?;
+    Ok(Outcome {
+        kind: RunKind::Under(run.config.protocol),
+        parts: run.config.parts,
+        decided,
+        giveups: GiveupList::new(run.alloc),
+        aborts: AbortList::new(run.alloc),
+        rows,
+    })
 }
