@@ -7,8 +7,10 @@ use Rattle.std.proofs.lemmas.List.Concat.{flat_map-append}
 use Rattle.deneva_base.specs.declared.numbers.TxnId.{TxnId}
 use Rattle.txn_program.specs.Serial.{program_of}
 use Rattle.server_core.specs.declared.messages.Entry.{Entry}
+use Rattle.server_core.proofs.CalvinSettings.{valid}
+use Rattle.server_core.proofs.Orders.{home_below as below}
 use Rattle.report.specs.Placed.{ArePlaced}
-use Rattle.report.specs.Stories.{Tells}
+use Rattle.report.specs.Stories.{Tells, setting_of}
 use Rattle.report.specs.declared.outcomes.run.Run.{Run}
 use Rattle.report.specs.declared.outcomes.stories.Story.{Story}
 use Rattle.report.proofs.Places.{accesses_placed}
@@ -32,3 +34,7 @@ module _ (ts : List Story) (i : ℕ) (t : Story) (less : i < length ts) (at : t 
 -- every key of each story has a partition
 pub all_placed : (r : Run) (H : List Entry) (ts : List Story) → All (Tells r H) ts → All (λ t. ArePlaced t.accesses) ts
 all_placed r H ts = All-weaker (Tells r H) (λ t. ArePlaced t.accesses) (placed r H) ts
+
+-- each home is one of the nodes
+pub home_below : (r : Run) (H : List Entry) (t : Story) → Tells r H t → t.home < r.config.parts
+home_below r H t k = subst (λ p. p < r.config.parts) (sym k.home) (below (setting_of r) (valid r.config r.work.now r.valid r.ranges) t.id k.known)

@@ -56,6 +56,11 @@ apart_in : (x : TxnId) (ls : List Decided) → AllByRecursion (λ y. id_eq x y �
 apart_in x [] all l i = absurd i
 apart_in x (k ∷ ks) all l i = ⊎_elim (λ (e : l ≡ k). subst (λ (z : Decided). id_eq x z.number.id ≡ false) (sym e) all.0) (λ r. apart_in x ks all.1 l r) i
 
+-- and the way back
+pub apart_from : (x : TxnId) (ls : List Decided) → ((l : Decided) → IsIn l ls → id_eq x l.number.id ≡ false) → AllByRecursion (λ y. id_eq x y ≡ false) (map (λ (l : Decided). l.number.id) ls)
+apart_from x [] h = tt
+apart_from x (l ∷ ls) h = (h l (inl refl), apart_from x ls (λ k i. h k (inr i)))
+
 heads : (k : Decided) (ks : List Decided) → HaveDistinctIds (k ∷ ks) → (l : Decided) → IsIn l ks → id_eq k.number.id l.number.id ≡ false
 heads k ks d = apart_in k.number.id ks (IsDistinct-head id_eq k.number.id (map (λ (l : Decided). l.number.id) ks) d)
 
@@ -63,7 +68,7 @@ tails : (k : Decided) (ks : List Decided) → HaveDistinctIds (k ∷ ks) → Hav
 tails k ks d = IsDistinct-tail id_eq k.number.id (map (λ (l : Decided). l.number.id) ks) d
 
 -- lines that rise are told by their elements
-unique : (xs ys : List Decided) → Rises xs → Rises ys → ((l : Decided) → IsIn l xs → IsIn l ys) → ((l : Decided) → IsIn l ys → IsIn l xs) → xs ≡ ys
+pub unique : (xs ys : List Decided) → Rises xs → Rises ys → ((l : Decided) → IsIn l xs → IsIn l ys) → ((l : Decided) → IsIn l ys → IsIn l xs) → xs ≡ ys
 unique [] [] r s f g = refl
 unique [] (y ∷ ys) r s f g = absurd (g y (inl refl))
 unique (x ∷ xs) [] r s f g = absurd (f x (inl refl))
@@ -101,7 +106,7 @@ put_rises k (m ∷ ms) apart r = go (number_lt m.number k.number) refl (put_rise
         let less = below k.number m.number e (apart m (inl refl)) in
         ((λ l i. ⊎_elim (λ f. subst (λ (z : Decided). NumberLt k.number z.number) (sym f) less) (λ j. trans k.number m.number l.number less (r.0 l j)) i), r)
 
-sort_rises : (ls : List Decided) → HaveDistinctIds ls → Rises (sort_lines ls)
+pub sort_rises : (ls : List Decided) → HaveDistinctIds ls → Rises (sort_lines ls)
 sort_rises [] d = tt
 sort_rises (k ∷ ks) d = put_rises k (sort_lines ks) (λ l i. heads k ks d l (sorted_in l ks i)) (sort_rises ks (tails k ks d))
 

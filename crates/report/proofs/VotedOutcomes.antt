@@ -1,6 +1,6 @@
 -- What the outcome of a voting protocol has of each transaction.
 use Rattle.std.proofs.Common.{◌≡◌, ◌≢◌, ◌⊎◌, ℕ, suc, ◌+◌, ◌<◌, ◌≤◌, List, [], ◌∷◌, ◌++◌, map, Bool, true, false, cond, ◌||◌, eqb, Option, Some, None, is_some, option_map, refl, sym, ap, ◌∙◌, subst, inl, inr, ⊎_elim, arith, true≢false}
-use Rattle.std.specs.List.{flat_map, IsDistinct, AllByRecursion}
+use Rattle.std.specs.List.{flat_map, IsDistinct}
 use Rattle.std.proofs.lemmas.Bool.Decides.{nat_tests}
 use Rattle.std.proofs.lemmas.Map.Keys.{IsDistinct-cons}
 use Rattle.deneva_base.specs.Keys.{id_eq}
@@ -26,7 +26,7 @@ use Rattle.server_core.proofs.Lines.{flat_in, in_flat, done_turn_is}
 use Rattle.server_core.proofs.SerialOutcomes.{in_sorted}
 use Rattle.report.specs.ByTransaction.{lines_for, giveups_for}
 use Rattle.report.specs.Outcomes.{IsOver}
-use Rattle.report.proofs.NumberOrder.{HaveDistinctIds, sorted_in}
+use Rattle.report.proofs.NumberOrder.{HaveDistinctIds, apart_from, sorted_in}
 
 module _ (s : Setting) (H : List Entry) where
   line_id : (x : TxnId) (l : Decided) → IsIn l (lines_for s H x) → l.number.id ≡ x
@@ -36,15 +36,11 @@ module _ (s : Setting) (H : List Entry) where
       go None e i = absurd i
       go (Some who) e i = ⊎_elim (λ (is : l ≡ line_of s H who). ap (λ (z : Decided). z.number.id) is ∙ (done_turn_is s H x s.attempts who e).0) (λ n. absurd n) i
 
-  -- no two lines are of one transaction
-  apart_from : (x : TxnId) (ls : List Decided) → ((l : Decided) → IsIn l ls → id_eq x l.number.id ≡ false) → AllByRecursion (λ y. id_eq x y ≡ false) (map (λ (l : Decided). l.number.id) ls)
-  apart_from x [] h = tt
-  apart_from x (l ∷ ls) h = (h l (inl refl), apart_from x ls (λ k i. h k (inr i)))
-
   id_after : (n : ℕ) (ps : List Program) (y : TxnId) → IsIn y (ids_from n ps) → n ≤ y.0
   id_after n [] y i = absurd i
   id_after n (p ∷ ps) y i = ⊎_elim (λ (e : y ≡ record { 0 = n }). let same = ap (λ (z : TxnId). z.0) e in omega (arith, same)) (λ r. let more = id_after (n + 1) ps y r in omega (arith, more)) i
 
+  -- no two lines are of one transaction
   pub apart : (n : ℕ) (ps : List Program) → HaveDistinctIds (flat_map (lines_for s H) (ids_from n ps))
   unfolding IsDistinct
   apart n [] = tt

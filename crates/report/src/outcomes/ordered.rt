@@ -29,7 +29,9 @@ fn has_finished(id: TxnId, part: u8, messages: &[&Msg]) -> bool
     };
     let here = match msg {
         Msg::Finished {
-            id: of, part: from, ..
+            id: of,
+            part: from,
+            ..
         } => *of == id && *from == part,
         _ => false,
     };
@@ -156,12 +158,14 @@ pub(crate) fn ordered_outcome(
 {
     let stories = stories_of(run, history)?;
     let decided = in_number_order(finished_lines(run, &stories)?)?;
+    let giveups = GiveupList::new(run.alloc);
+    let aborts = AbortList::new(run.alloc);
     Ok(Outcome {
         kind: RunKind::Under(run.config.protocol),
         parts: run.config.parts,
         decided,
-        giveups: GiveupList::new(run.alloc),
-        aborts: AbortList::new(run.alloc),
+        giveups,
+        aborts,
         rows,
     })
 }
