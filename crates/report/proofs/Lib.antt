@@ -6,6 +6,7 @@ pub mod Groups
 pub mod Lines
 pub mod Locals
 pub mod NumberOrder
+pub mod OneByOne
 pub mod OrderedLines
 pub mod Places
 pub mod Telling

@@ -33,7 +33,7 @@ module _ (work : Workload) where
     abbrev it : TxnId
     it = record { 0 = k + 1 }
 
-    id_at : get_or (all_ids work) k it ≡ it
+    pub id_at : get_or (all_ids work) k it ≡ it
     id_at = from_at 1 work.programs k it less ∙ ap (λ (i : ℕ). record { 0 = i }) (omega arith)
 
     within : k < length (all_ids work)

@@ -71,6 +71,20 @@ impl Story<'_> {
     }
 }
 
+fn least_open(run: Run<'_>, history: &[Entry]) -> Result<Option<TxnId>, NoMemory>
+    ensures some { IfOk result (λ r. IfSome r (IsLeastOpen run.entry.work.now (outcome run.entry.config run.entry.work.now (reverse history.now)))) }
+    ensures none { IfOk result (λ r. IfNone r ((x : numbers.TxnId) → IsIn x (all_ids run.entry.work.now) → IsOver (outcome run.entry.config run.entry.work.now (reverse history.now)) x)) }
+    ensures quiet { IfOk result (λ r. IsQuiet run.entry.config run.entry.work.now (reverse history.now) → r ≡ None) }
+{
+    let stories = stories_of(run, history)?;
+    for story in &stories {
+        if !story.is_over(run)? {
+            return Ok(Some(story.id));
+        }
+    }
+    Ok(None)
+}
+
 /// The least transaction that is neither decided nor given up.
 pub fn undecided(
     alloc: Global,
@@ -84,16 +98,12 @@ pub fn undecided(
     ensures none { IfOk result (λ r. IfNone r ((x : numbers.TxnId) → IsIn x (all_ids work.now) → IsOver (outcome config work.now (reverse history.now)) x)) }
     ensures quiet { IfOk result (λ r. IsQuiet config work.now (reverse history.now) → r ≡ None) }
 {
-    let run = Run {
-        alloc,
-        config,
-        work,
-    };
-    let stories = stories_of(run, history)?;
-    for story in &stories {
-        if !story.is_over(run)? {
-            return Ok(Some(story.id));
-        }
-    }
-    Ok(None)
+    least_open(
+        Run {
+            alloc,
+            config,
+            work,
+        },
+        history,
+    )
 }
