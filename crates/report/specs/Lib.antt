@@ -1,3 +1,12 @@
+pub mod ByTransaction
+pub mod Counting
+pub mod Finishing
+pub mod Naming
+pub mod Outcomes
+pub mod Placed
 pub mod Records
 pub mod ReportText
+pub mod Rereads
+pub mod Seen
 pub mod SerialOutcome
+pub mod Stories

@@ -5,6 +5,7 @@
 mod aborts;
 mod decided;
 mod fields;
+mod outcomes;
 mod rows;
 mod serial;
 #[cfg(test)]
@@ -12,6 +13,7 @@ mod tests;
 mod texts;
 
 pub use fields::{push_field, push_number_field};
+pub use outcomes::{outcome_of, undecided};
 pub use serial::serial_outcome;
 pub use server_core::{AbortLine, Decided, Giveup, Outcome, RunKind};
 pub use texts::{write_brief, write_report};

@@ -1,0 +1,40 @@
+-- One story more.
+use Rattle.std.proofs.Common.{◌≡◌, ℕ, ◌+◌, ◌<◌, List, [], ◌∷◌, ◌++◌, length, map, take, get_or, sym, ap, subst, ◌∙◌}
+use Rattle.std.specs.List.{All, flat_map}
+use Rattle.std.proofs.lemmas.List.{append-nil, map_more}
+use Rattle.std.proofs.lemmas.List.Elements.{All-weaker}
+use Rattle.std.proofs.lemmas.List.Concat.{flat_map-append}
+use Rattle.deneva_base.specs.declared.numbers.TxnId.{TxnId}
+use Rattle.txn_program.specs.Serial.{program_of}
+use Rattle.server_core.specs.declared.messages.Entry.{Entry}
+use Rattle.server_core.proofs.CalvinSettings.{valid}
+use Rattle.server_core.proofs.Orders.{home_below as below}
+use Rattle.report.specs.Placed.{ArePlaced}
+use Rattle.report.specs.Stories.{Tells, setting_of}
+use Rattle.report.specs.declared.outcomes.run.Run.{Run}
+use Rattle.report.specs.declared.outcomes.stories.Story.{Story}
+use Rattle.report.proofs.Places.{accesses_placed}
+
+pub placed : (r : Run) (H : List Entry) (t : Story) → Tells r H t → ArePlaced t.accesses
+placed r H t k = subst ArePlaced (sym k.accesses) (accesses_placed r.work.now.load (program_of r.work.now t.id))
+
+module _ (ts : List Story) (i : ℕ) (t : Story) (less : i < length ts) (at : t ≡ get_or ts i t) where
+  pub story_at : (P : Story → Type 0) → All P ts → P t
+  story_at P all = subst P (sym at) (all i t less)
+
+  pub story_more : {A : Type 0} (f : TxnId → List A) (list now : List A) → list ≡ flat_map f (map (λ t. t.id) (take i ts)) → now ≡ list ++ f t.id → now ≡ flat_map f (map (λ t. t.id) (take (i + 1) ts))
+  story_more f list now so_far put =
+      let ids = map (λ (t : Story). t.id) (take i ts) in
+      put ∙ ap (λ l. l ++ f t.id) so_far
+      ∙ ap (λ l. flat_map f ids ++ l) (sym (append-nil (f t.id)))
+      ∙ sym (flat_map-append f ids (t.id ∷ []))
+      ∙ ap (λ (x : Story). flat_map f (ids ++ x.id ∷ [])) at
+      ∙ ap (flat_map f) (sym (map_more (λ (t : Story). t.id) ts i t less))
+
+-- every key of each story has a partition
+pub all_placed : (r : Run) (H : List Entry) (ts : List Story) → All (Tells r H) ts → All (λ t. ArePlaced t.accesses) ts
+all_placed r H ts = All-weaker (Tells r H) (λ t. ArePlaced t.accesses) (placed r H) ts
+
+-- each home is one of the nodes
+pub home_below : (r : Run) (H : List Entry) (t : Story) → Tells r H t → t.home < r.config.parts
+home_below r H t k = subst (λ p. p < r.config.parts) (sym k.home) (below (setting_of r) (valid r.config r.work.now r.valid r.ranges) t.id k.known)

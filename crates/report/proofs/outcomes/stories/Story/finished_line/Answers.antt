@@ -1,0 +1,11 @@
+use Rattle.std.proofs.Common.{map, ap, ap₂, ◌∙◌}
+use Rattle.report.specs.Finishing.{gathered}
+use Rattle.report.proofs.Finished.{line_told}
+use Rattle.report.proofs.outcomes.stories.Story.finished_line.Goals as goal
+
+pub returns : goal.returns
+returns c H k at =
+    let t = c.args.self.now in
+    c.in_ok-line.ensures H k
+    ∙ line_told c.args.run H t k c.args.place c.number_of-n.result c.in_ok-reads.reads at c.number_of-n.ensures
+    (c.in_ok-reads.ensures ∙ ap₂ (λ l a. gathered c.args.run.config.parts (map (λ m. m.now) l) t.id a) c.deref.ensures.value c.as_slice.ensures)

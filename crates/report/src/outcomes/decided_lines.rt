@@ -1,0 +1,102 @@
+//! The lines of decided transactions.
+ghost use Rattle.std.specs.Prelude.{◌≡◌, ◌++◌, List, map, IfOk, OnOk, option_to_list};
+ghost use Rattle.server_core.specs.Coordinator as coordinator;
+ghost use Rattle.server_core.specs.Ends.{attempt};
+ghost use Rattle.server_core.specs.Outcome as outcome;
+ghost use Rattle.server_core.specs.declared.messages.Entry as messages;
+ghost use Rattle.report.specs.ByTransaction.{lines_for};
+ghost use Rattle.report.specs.Rereads.{reply_of};
+ghost use Rattle.report.specs.Stories.{Tells, setting_of};
+
+use crate::outcomes::replies::grants_for;
+use crate::outcomes::run::Run;
+use crate::outcomes::stories::Story;
+use deneva_base::{Access, Attempt, Copied, Keyed, NoMemory, Number, Row, RowList};
+use server_core::{Decided, Entry, Msg};
+use txn_program::{Effect, effect_of};
+
+/// The number of the attempt's Commit.
+fn committed_n(who: Attempt, entries: &[&Entry]) -> u64
+    ensures { result ≡ outcome.committed_n who (map (λ e. e.now) entries.now) }
+{
+    let [entry, before @ ..] = entries else {
+        return 0;
+    };
+    match &entry.msg {
+        Msg::Commit { who: by, number } if *by == who => number.n,
+        _ => committed_n(who, before),
+    }
+}
+
+/// Puts what the accesses that read were granted at the end.
+fn push_reads(
+    reads: &mut RowList,
+    run: Run<'_>,
+    accesses: &[Access],
+    rows: &[&Row],
+) -> Result<(), NoMemory>
+    ensures { OnOk result (reads.new ≡ reads.old ++ coordinator.reads_of accesses.now (map reply_of (map (λ r. r.now) rows.now))) }
+{
+    let [access, more @ ..] = accesses else {
+        return Ok(());
+    };
+    let [row, others @ ..] = rows else {
+        return Ok(());
+    };
+    if access.mode.is_reading() {
+        reads.push(Keyed {
+            key: access.key,
+            row: row.copy(run.alloc)?,
+        })?;
+    }
+    push_reads(reads, run, more, others)
+}
+
+impl Story<'_> {
+    /// The line of the transaction, decided with this number on what it read.
+    pub(crate) fn decided_as(
+        &self,
+        run: Run<'_>,
+        n: u64,
+        reads: RowList,
+    ) -> Result<Decided, NoMemory>
+        ensures { IfOk result (λ line. (H : List messages.Entry) → Tells run.entry H self.now → line ≡ outcome.decided_as (setting_of run.entry) self.now.id n reads) }
+    {
+        let Effect {
+            verdict,
+            answer,
+            ..
+        } = effect_of(run.alloc, &run.work.load, self.id, self.program, &reads)?;
+        let id = self.id;
+        Ok(Decided {
+            number: Number { n, id },
+            verdict,
+            answer,
+            parts: self.parts.copy(run.alloc)?,
+            reads,
+        })
+    }
+
+    /// The line of the transaction, of which the attempt of this turn is decided.
+    fn line_of(&self, run: Run<'_>, turn: u8) -> Result<Decided, NoMemory>
+        ensures { IfOk result (λ line. (H : List messages.Entry) → Tells run.entry H self.now → line ≡ outcome.line_of (setting_of run.entry) H (attempt self.now.id turn)) }
+    {
+        let who = self.attempt(turn);
+        let rows = grants_for(run.alloc, who, &self.messages)?;
+        let mut reads = RowList::new(run.alloc);
+        push_reads(&mut reads, run, self.accesses.as_slice(), &rows)?;
+        let n = committed_n(who, &self.entries);
+        let line = self.decided_as(run, n, reads)?;
+        Ok(line)
+    }
+
+    /// The line of the transaction, if it is decided.
+    pub(crate) fn line(&self, run: Run<'_>) -> Result<Option<Decided>, NoMemory>
+        ensures { IfOk result (λ line. (H : List messages.Entry) → Tells run.entry H self.now → option_to_list line ≡ lines_for (setting_of run.entry) H self.now.id) }
+    {
+        match self.done_turn(run.config.attempts) {
+            Some(turn) => Ok(Some(self.line_of(run, turn)?)),
+            None => Ok(None),
+        }
+    }
+}
