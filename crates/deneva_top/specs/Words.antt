@@ -14,6 +14,7 @@ use Rattle.deneva_top.specs.declared.words.Command.TheVariants.{Serial, Replay}
 use Rattle.deneva_top.specs.Numbers.{number_in}
 use Rattle.deneva_top.specs.Options.{Given, options_of, value_at, read_or}
 
+-- one definition after another, up to the first that gives nothing
 infixl 10 ◌>>=◌
 abbrev pub ◌>>=◌ : {A B : Type 0} → Option A → (A → Option B) → Option B
 o >>= f = option_and_then f o
@@ -49,7 +50,7 @@ schedule_of word =
     else if starts_with nat_eq word (codes "list:") then option_map Listed (numbers_of (drop 5 word))
     else None
 
--- the options of `replay`, with their ranges and defaults
+-- the options of `replay`: the protocol is required, and the others have defaults
 abbrev pub replay_options : List (List ℕ)
 replay_options = codes "--protocol" ∷ codes "--partitions" ∷ codes "--attempts" ∷ codes "--limit" ∷ codes "--order" ∷ []
 

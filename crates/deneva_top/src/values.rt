@@ -12,14 +12,15 @@ use std::alloc::Global;
 /// The most numbers that a schedule lists.
 const MOST_LISTED: usize = 1_000;
 
-/// A number from 1 to a limit.
-pub fn count_of(word: &str, limit: u8) -> Option<u8>
-    ensures { result ≡ spelled.number 1 limit word.now }
+/// A number that is at least 1.
+pub fn count_of(word: &str, most: u8) -> Option<u8>
+    ensures { result ≡ spelled.number 1 most word.now }
 {
-    let count = number_within(word.as_bytes(), 1, u32::from(limit)).ok()?;
+    let count = number_within(word.as_bytes(), 1, u32::from(most)).ok()?;
     Some(count as u8)
 }
 
+/// The protocol of a word, which is the one that reports have for it.
 pub fn protocol_of(word: &str) -> Option<Protocol>
     ensures { result ≡ spelled.protocol_of word.now }
 {
@@ -66,6 +67,7 @@ fn numbers_of(alloc: Global, text: &str) -> Result<Option<CountList>, NoMemory>
     Ok(Some(numbers))
 }
 
+/// The schedule of `fifo`, `lifo`, `seed:S` or `list:K.K.K`.
 pub fn schedule_of(alloc: Global, word: &str) -> Result<Option<Schedule>, NoMemory>
     ensures { IfOk result (λ schedule. schedule ≡ spelled.schedule_of word.now) }
 {

@@ -32,12 +32,12 @@ const ORDER: &str = "--order";
 /// The options of `replay`.
 const REPLAY_OPTIONS: [&str; 5] = [PROTOCOL, PARTITIONS, ATTEMPTS, LIMIT, ORDER];
 
-/// The number of an option from 1 to a limit, or its default.
-fn count_or(options: &Options, name: &str, limit: u8, default: u8) -> Option<u8>
-    ensures { result ≡ read_or default (spelled.number 1 limit) (value_at name.now options.now) }
+/// The number of an option, which is at least 1, or its default.
+fn count_or(options: &Options, name: &str, most: u8, default: u8) -> Option<u8>
+    ensures { result ≡ read_or default (spelled.number 1 most) (value_at name.now options.now) }
 {
     match options.value(name) {
-        Some(word) => count_of(word, limit),
+        Some(word) => count_of(word, most),
         None => Some(default),
     }
 }
@@ -57,7 +57,7 @@ fn config_of(options: &Options) -> Option<Config>
     })
 }
 
-/// The schedule that the options name, or that which delivers first what was said first.
+/// The schedule that the options give, or the default.
 fn order_of(alloc: Global, options: &Options) -> Result<Option<Schedule>, NoMemory>
     ensures { IfOk result (λ schedule. schedule ≡ read_or Fifo spelled.schedule_of (value_at ORDER.now options.now)) }
 {
