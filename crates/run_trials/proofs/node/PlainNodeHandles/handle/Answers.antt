@@ -1,7 +1,6 @@
-use Rattle.std.proofs.Common.{rules, ◌≡◌, ◌++◌, ◌∷◌, List, false, sym, ap, ◌∙◌, subst}
+use Rattle.std.proofs.Common.{rules, ◌≡◌, ◌++◌, ◌∷◌, false, ap, ◌∙◌}
 use Rattle.coord.specs.Standing.{is_call}
 use Rattle.node_core.specs.Places.{role_at}
-use Rattle.node_core.specs.Standing.{NodeStands}
 use Rattle.server_core.specs.Roles.{said_by}
 use Rattle.run_trials.specs.declared.node.PlainNode.{PlainNode}
 use Rattle.run_trials.proofs.Keeping.{says_on, stands_on}
