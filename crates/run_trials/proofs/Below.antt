@@ -1,5 +1,5 @@
 -- Filters over the numbers below one more.
-use Rattle.std.proofs.Common.{◌≡◌, ◌≤◌, ◌-◌, ◌++◌, ℕ, zero, suc, List, [], ◌∷◌, Bool, filter, arith, sym, subst}
+use Rattle.std.proofs.Common.{◌≡◌, ◌≤◌, ◌-◌, ◌++◌, ℕ, zero, suc, [], ◌∷◌, Bool, filter, arith}
 use Rattle.std.proofs.lemmas.List.Elements.{filter-append}
 use Rattle.txn_program.specs.Transactions.{numbers_below}
 

@@ -1,5 +1,5 @@
 -- What a plain node stands for.
-use Rattle.std.specs.Prelude.{◌≡◌, List, ◌∷◌}
+use Rattle.std.specs.Prelude.{◌≡◌, List}
 use Rattle.deneva_base.specs.History.{History}
 use Rattle.deneva_base.specs.Rows.{Rows}
 use Rattle.deneva_base.specs.Rules.{Rule}

@@ -1,6 +1,4 @@
-use Rattle.std.proofs.Common.{length, ◌≡◌, IfOk, map, reverse, ℕ, ◌+◌, ◌-◌, ◌*◌, ◌<◌, ◌≤◌}
-use Rattle.server_core.specs.Replies as replies
-use Rattle.run_trials.specs.Plain.{reply_of, ballot_of}
+use Rattle.std.proofs.Common.{length}
 use Rattle.run_trials.proofs.replies.+grants_for.Given as goal
 
 -- proposed from what the function passes where it calls itself

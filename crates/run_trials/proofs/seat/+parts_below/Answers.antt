@@ -1,4 +1,4 @@
-use Rattle.std.proofs.Common.{rules, ◌≡◌, ◌≤◌, ◌==◌, ◌-◌, ◌++◌, ◌∷◌, [], ℕ, filter, arith}
+use Rattle.std.proofs.Common.{rules, ◌≤◌, ◌==◌, arith}
 use Rattle.std.specs.List.{list_any}
 use Rattle.deneva_base.specs.Partitions.{partition_of}
 use Rattle.run_trials.proofs.Below.{below_more}

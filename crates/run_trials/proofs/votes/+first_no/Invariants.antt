@@ -1,6 +1,4 @@
-use Rattle.std.proofs.Common.{length, ◌≡◌, IfOk, map, None, ℕ, ◌+◌, ◌-◌, ◌*◌, ◌<◌, ◌≤◌}
-use Rattle.server_core.specs.Coordinator as coordinator
-use Rattle.run_trials.specs.Plain.{ballot_of}
+use Rattle.std.proofs.Common.{length}
 use Rattle.run_trials.proofs.votes.+first_no.Given as goal
 
 -- proposed from what the function passes where it calls itself

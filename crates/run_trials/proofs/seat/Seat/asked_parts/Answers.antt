@@ -1,11 +1,7 @@
-use Rattle.std.proofs.Common.{sym, rules, ◌≡◌, ◌≤◌, ◌<◌, ◌+◌, ◌^◌, ◌∷◌, [], ℕ, suc, cond, ◌*◌, IfOk, None, map, length, slice_get, ◌-◌, ◌/◌, ◌%◌, Bool, true, false, nat_eq, nat_lt, List, ◌++◌, slice_index_or, slice_set, bit_and, bit_or, Fits, w8, w32, w64, Bor, MutBor}
+use Rattle.std.proofs.Common.{sym, rules, ◌≡◌, suc, length}
 use Rattle.server_core.specs.Replies as replies
-use Rattle.server_core.specs.Coordinator as coordinator
 use Rattle.server_core.specs.Setting as settings
-use Rattle.server_core.specs.Stamps as stamps
-use Rattle.server_core.specs.declared.messages.Msg.TheVariants.{Start, Abort, Done, Undone}
-use Rattle.server_core.specs.Small.{SmallCause}
-use Rattle.run_trials.specs.Plain.{AllSmall, reply_of, ballot_of, setting_at}
+use Rattle.run_trials.specs.Plain.{setting_at}
 use Rattle.run_trials.proofs.seat.Seat.asked_parts.Goals as goal
 
 -- src/coordinator.rt:222:5
