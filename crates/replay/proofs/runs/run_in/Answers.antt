@@ -10,7 +10,7 @@ use Rattle.server_core.specs.Picks.{picked}
 use Rattle.server_core.specs.Runs.{heard}
 use Rattle.server_core.specs.declared.messages.Entry.{Entry}
 use Rattle.server_core.specs.declared.outcomes.Outcome.{Outcome}
-use Rattle.report.specs.WithRows.{with_rows}
+use Rattle.report.specs.Outcomes.{with_rows}
 use Rattle.replay.proofs.Outcomes.{outcome_rows}
 use Rattle.replay.proofs.runs.run_in.Goals as goal
 
