@@ -1,7 +1,7 @@
 -- The entries at which aborts were found, by the entries of their transaction.
 use Rattle.std.proofs.Common.{◌≡◌, ℕ, suc, ◌+◌, List, [], ◌∷◌, ◌++◌, append_assoc, arith, map, Bool, true, false, cond, ◌&&◌, ltb, eqb, Option, Some, None, option_map, Bor, refl, sym, ap, ap₂, ◌∙◌}
 use Rattle.std.specs.List.{find}
-use Rattle.deneva_base.specs.Keys.{id_eq, key_eq, attempt_eq}
+use Rattle.deneva_base.specs.Keys.{key_eq}
 use Rattle.deneva_base.specs.declared.causes.Cause.{Cause}
 use Rattle.deneva_base.specs.declared.keys.Key.{Key}
 use Rattle.deneva_base.specs.declared.numbers.Attempt.{Attempt}
@@ -10,7 +10,7 @@ use Rattle.server_core.specs.Aborts.{Refusal, is_ask_of, is_prepare_of, is_vote_
 use Rattle.server_core.specs.Coordinator.{first_no, greatest_lo, least_hi}
 use Rattle.server_core.specs.Ends.{attempt, at_home}
 use Rattle.server_core.specs.Replies.{Ballot, votes_for, started_for, all_voted}
-use Rattle.server_core.specs.Setting.{Setting, home, participants}
+use Rattle.server_core.specs.Setting.{Setting, home}
 use Rattle.server_core.specs.declared.messages.Entry.{Entry}
 use Rattle.server_core.specs.declared.messages.Msg.{Msg}
 use Rattle.server_core.specs.declared.messages.Msg.TheVariants.{Ask, Prepare, Yes, No}

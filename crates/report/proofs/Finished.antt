@@ -2,8 +2,8 @@
 use Rattle.std.proofs.Common.{◌≡◌, ◌≢◌, ℕ, zero, suc, ◌+◌, ◌/◌, ◌%◌, ◌<◌, ◌≤◌, List, [], ◌∷◌, ◌++◌, length, map, take, drop, get_or, set, Bool, true, false, cond, ◌&&◌, ◌||◌, eqb, refl, sym, ap, ap₂, ◌∙◌, subst, inl, inr, ⊎_elim, arith}
 use Rattle.std.specs.List.{All, filter, list_all}
 use Rattle.std.proofs.lemmas.Bool.Decides.{nat_tests, eqb_tells}
-use Rattle.std.proofs.lemmas.List.{append-nil, length-append, map-append, map_more, take_more, take-append-drop, drop_more, get_or_default, get_or-set_same, get_or-set_other, length-take}
-use Rattle.std.proofs.lemmas.List.Elements.{filter-append, filter_more, All-take}
+use Rattle.std.proofs.lemmas.List.{length-append, map-append, take_more, take-append-drop, drop_more, get_or_default, get_or-set_same, get_or-set_other, length-take}
+use Rattle.std.proofs.lemmas.List.Elements.{filter-append, All-take}
 use Rattle.deneva_base.specs.Keys.{id_eq}
 use Rattle.deneva_base.specs.Lists.{IsIn}
 use Rattle.deneva_base.specs.Partitions.{partition_of}
@@ -15,11 +15,11 @@ use Rattle.txn_program.specs.Apart.{DistinctBy}
 use Rattle.txn_program.specs.Serial.{all_ids}
 use Rattle.txn_program.specs.Transactions.{reading}
 use Rattle.txn_program.proofs.Ids.{distinct_ids}
-use Rattle.server_core.specs.GlobalOrder.{index_of, number, numbered}
+use Rattle.server_core.specs.GlobalOrder.{index_of, numbered}
 use Rattle.server_core.specs.Ordered.{has_finished, rows_from, collected}
 use Rattle.server_core.specs.Outcome.{decided_as}
 use Rattle.server_core.specs.Runs.{heard}
-use Rattle.server_core.specs.Setting.{Setting, home, homes, parts_for}
+use Rattle.server_core.specs.Setting.{Setting, home}
 use Rattle.server_core.specs.declared.messages.Entry.{Entry}
 use Rattle.server_core.specs.declared.messages.Msg.{Msg}
 use Rattle.server_core.specs.declared.messages.Msg.TheVariants.{Rows, Finished}

@@ -1,6 +1,5 @@
 -- The groups of entries after one entry more.
-use Rattle.std.proofs.Common.{◌≡◌, ◌≢◌, ℕ, zero, suc, ◌+◌, ◌-◌, ◌<◌, ◌≤◌, List, [], ◌∷◌, ◌++◌, length, map, get_or, set, Bool, true, false, cond, eqb, Option, Some, None, refl, sym, ap, ◌∙◌, subst, arith, ⊎_elim}
-use Rattle.std.specs.List.{filter}
+use Rattle.std.proofs.Common.{◌≡◌, ◌≢◌, ℕ, zero, suc, ◌+◌, ◌-◌, ◌<◌, ◌≤◌, List, [], ◌∷◌, ◌++◌, length, map, get_or, set, true, false, cond, eqb, Some, None, refl, sym, ap, ◌∙◌, subst, arith, ⊎_elim}
 use Rattle.std.proofs.lemmas.Bool.Decides.{nat_tests, eqb_tells}
 use Rattle.std.proofs.lemmas.List.{append-nil, map-append, length-append, length-map, length-set, ext_get_or, get_or-set_same, get_or-set_other, map-set, get_or_at, get_or_append_left}
 use Rattle.std.proofs.lemmas.List.Elements.{filter-append}
@@ -8,7 +7,6 @@ use Rattle.std.proofs.Math.ListN.{get_or-map}
 use Rattle.deneva_base.specs.declared.numbers.TxnId.{TxnId}
 use Rattle.txn_program.specs.Transactions.{numbers_below}
 use Rattle.server_core.specs.declared.messages.Entry.{Entry}
-use Rattle.server_core.specs.declared.messages.Msg.{Msg}
 use Rattle.report.specs.Naming.{txn_of, is_id, is_about, entries_of, groups_of}
 
 pub length_below : {A : Type 0} (f : ℕ → A) (n : ℕ) → length (map f (numbers_below n)) ≡ n

@@ -1,17 +1,17 @@
 -- What came for a transaction is told by its own messages and entries.
-use Rattle.std.proofs.Common.{◌≡◌, ℕ, zero, suc, List, [], ◌∷◌, map, filter, Bool, true, false, cond, ◌&&◌, ◌||◌, ◌==◌, eqb, Option, Some, None, refl, sym, ap, ◌∙◌}
+use Rattle.std.proofs.Common.{◌≡◌, ℕ, List, [], ◌∷◌, filter, Bool, true, false, cond, ◌&&◌, ◌||◌, ◌==◌, eqb, Some, refl, sym, ap, ◌∙◌}
 use Rattle.deneva_base.specs.Keys.{id_eq, attempt_eq}
 use Rattle.deneva_base.specs.declared.answers.Vote.TheVariants.{Yes as VotesYes, No as VotesNo}
 use Rattle.deneva_base.specs.declared.numbers.Attempt.{Attempt}
 use Rattle.deneva_base.specs.declared.numbers.TxnId.{TxnId}
-use Rattle.server_core.specs.Aborts.{Refusal, refusal_for, newest}
+use Rattle.server_core.specs.Aborts.{refusal_for, newest}
 use Rattle.server_core.specs.Ends.{dones_for, undones_for}
 use Rattle.server_core.specs.Outcome.{n_in, committed_n}
 use Rattle.server_core.specs.Replies.{grants_for, votes_for, refused_for, started_for}
 use Rattle.server_core.specs.Runs.{heard}
 use Rattle.server_core.specs.declared.messages.Entry.{Entry}
 use Rattle.server_core.specs.declared.messages.Msg.{Msg}
-use Rattle.server_core.specs.declared.messages.Msg.TheVariants.{Start, Ask, Granted, Refused, Prepare, Yes, No, Commit, Abort, Done, Undone, Tick, Batch, Rows, Finished}
+use Rattle.server_core.specs.declared.messages.Msg.TheVariants.{Start, Granted, Refused, Yes, No, Commit, Done, Undone}
 use Rattle.report.specs.Naming.{is_about, entries_of}
 
 -- f of a list passes over the items that fail the test

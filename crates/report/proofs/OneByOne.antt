@@ -1,6 +1,5 @@
 -- Transactions that are decided or given up, one after another.
-use Rattle.std.proofs.Common.{◌≡◌, ◌≢◌, ◌⊎◌, ℕ, ◌+◌, ◌<◌, ◌≤◌, List, length, map, get_or, Bool, true, false, eqb, refl, sym, ap, ◌∙◌, subst, inl, inr, ⊎_elim, arith}
-use Rattle.std.specs.List.{All}
+use Rattle.std.proofs.Common.{◌≡◌, ◌≢◌, ℕ, ◌+◌, ◌<◌, ◌≤◌, List, length, map, get_or, true, false, eqb, sym, ap, ◌∙◌, subst, inl, inr, ⊎_elim, arith}
 use Rattle.std.proofs.Math.ListN.{get_or-map}
 use Rattle.std.proofs.lemmas.Bool.Decides.{eqb_tells}
 use Rattle.std.proofs.lemmas.List.{length-map, get_or_default}
@@ -12,7 +11,6 @@ use Rattle.txn_program.specs.Valid.{IsValid}
 use Rattle.txn_program.specs.declared.programs.Workload.{Workload}
 use Rattle.txn_program.proofs.Ids.{id_between, id_for_each}
 use Rattle.server_core.specs.Configs.{IsConfig}
-use Rattle.server_core.specs.IsSerial.{IsDecided, IsGivenUp}
 use Rattle.server_core.specs.Outcome.{outcome}
 use Rattle.server_core.specs.Says.{IsQuiet}
 use Rattle.server_core.specs.declared.messages.Entry.{Entry}

@@ -1,5 +1,5 @@
 -- The lines of finished transactions in the global order are those by id, sorted.
-use Rattle.std.proofs.Common.{◌≡◌, ◌≢◌, ◌⊎◌, ℕ, List, [], ◌∷◌, map, Bool, true, false, cond, eqb, refl, sym, ap, ◌∙◌, subst, inl, inr, ⊎_elim, arith, true≢false}
+use Rattle.std.proofs.Common.{◌≡◌, ◌≢◌, ℕ, List, [], ◌∷◌, map, Bool, true, false, cond, eqb, refl, sym, ap, ◌∙◌, subst, inl, ⊎_elim, arith}
 use Rattle.std.specs.List.{filter, IsDistinct}
 use Rattle.std.proofs.lemmas.Bool.Decides.{nat_tests}
 use Rattle.std.proofs.lemmas.Map.Keys.{IsDistinct-cons}
@@ -7,7 +7,6 @@ use Rattle.deneva_base.specs.Keys.{id_eq, NumberLt}
 use Rattle.deneva_base.specs.Lists.{IsIn}
 use Rattle.deneva_base.specs.declared.config.Config.{Config}
 use Rattle.deneva_base.specs.declared.config.Protocol.TheVariants.{Calvin}
-use Rattle.deneva_base.specs.declared.numbers.Number.{Number}
 use Rattle.deneva_base.specs.declared.numbers.TxnId.{TxnId}
 use Rattle.txn_program.specs.Apart.{DistinctBy}
 use Rattle.txn_program.specs.Serial.{all_ids}
@@ -18,8 +17,8 @@ use Rattle.txn_program.proofs.Members.{in_map, in_map_from, in_filter, in_filter
 use Rattle.server_core.specs.CalvinSerial.{RisingIds}
 use Rattle.server_core.specs.Configs.{IsConfig}
 use Rattle.server_core.specs.GlobalOrder.{order, number}
-use Rattle.server_core.specs.IsSerial.{Rises, IsDecided, IsGivenUp}
-use Rattle.server_core.specs.Outcome.{sort_lines, ordered_lines, outcome, outcome_with}
+use Rattle.server_core.specs.IsSerial.{Rises}
+use Rattle.server_core.specs.Outcome.{sort_lines, ordered_lines, outcome}
 use Rattle.server_core.specs.Setting.{Setting, setting}
 use Rattle.server_core.specs.declared.messages.Entry.{Entry}
 use Rattle.server_core.specs.declared.outcomes.Decided.{Decided}

@@ -1,5 +1,5 @@
 -- What a story tells is what the whole history tells.
-use Rattle.std.proofs.Common.{◌≡◌, ℕ, zero, suc, ◌+◌, min, List, [], ◌∷◌, map, length, reverse, take, Bool, true, false, cond, refl, sym, ap, ◌∙◌, ◌&&◌, ap₂, arith}
+use Rattle.std.proofs.Common.{◌≡◌, ℕ, zero, suc, ◌+◌, min, List, [], ◌∷◌, map, length, reverse, take, true, false, cond, refl, sym, ap, ◌∙◌, ◌&&◌, ap₂, arith}
 use Rattle.std.proofs.lemmas.List.{length-map, length-reverse, take_min}
 use Rattle.std.proofs.Math.Nat.{min_comm}
 use Rattle.deneva_base.specs.Modes.{reads}

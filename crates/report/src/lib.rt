@@ -5,6 +5,8 @@
 mod aborts;
 mod decided;
 mod fields;
+#[cfg(test)]
+mod outcome_tests;
 mod outcomes;
 mod rows;
 mod serial;

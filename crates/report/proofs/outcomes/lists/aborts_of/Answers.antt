@@ -1,4 +1,4 @@
-use Rattle.std.proofs.Common.{◌≤◌, length, map, take, ap, ◌∙◌}
+use Rattle.std.proofs.Common.{map, ap, ◌∙◌}
 use Rattle.std.specs.List.{flat_map}
 use Rattle.std.proofs.lemmas.List.{take_all}
 use Rattle.server_core.specs.Aborts.{turns}

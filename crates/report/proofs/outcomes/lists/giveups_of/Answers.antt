@@ -1,4 +1,4 @@
-use Rattle.std.proofs.Common.{[], ◌++◌, option_to_list, ap, sym, ◌∙◌, append-nil}
+use Rattle.std.proofs.Common.{◌++◌, option_to_list, ap, sym, ◌∙◌, append-nil}
 use Rattle.report.specs.ByTransaction.{giveups_for}
 use Rattle.report.specs.Stories.{Tells, setting_of}
 use Rattle.report.proofs.Gathering.{story_at, story_more}

@@ -1,7 +1,7 @@
-use Rattle.std.proofs.Common.{List, [], ◌∷◌, ◌++◌, ◌+◌, ◌<◌, length, map, take, cond, true, false, sym, ap, ◌∙◌, arith}
-use Rattle.std.proofs.lemmas.List.{append-nil, length-set, take_all}
+use Rattle.std.proofs.Common.{[], ◌∷◌, ◌++◌, ◌+◌, ◌<◌, cond, sym, ap, ◌∙◌, arith}
+use Rattle.std.proofs.lemmas.List.{append-nil, length-set}
 use Rattle.server_core.specs.declared.outcomes.Decided.{Decided}
-use Rattle.report.specs.Finishing.{is_finished, finished_line, finished_lines_of}
+use Rattle.report.specs.Finishing.{finished_line}
 use Rattle.report.specs.Stories.{Tells, setting_of}
 use Rattle.report.proofs.Finished.{place_is, place_few, counts_more, place_there, lines_more, finished_told}
 use Rattle.report.proofs.Gathering.{story_at}

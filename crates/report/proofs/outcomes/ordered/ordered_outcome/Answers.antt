@@ -1,4 +1,4 @@
-use Rattle.std.proofs.Common.{List, [], ◌<◌, ◌≤◌, map, reverse, length, subst, ap, sym, ◌∙◌, arith}
+use Rattle.std.proofs.Common.{List, ◌<◌, map, reverse, length, subst, ap, sym, ◌∙◌, arith}
 use Rattle.std.specs.List.{All, IsDistinct}
 use Rattle.std.proofs.lemmas.List.{length-map}
 use Rattle.std.proofs.lemmas.List.Elements.{All-weaker}

@@ -1,8 +1,7 @@
-use Rattle.std.proofs.Common.{◌≡◌, List, map, ◌∷◌, [], ◌++◌, ◌+◌, take, cond, eqb, true, false, sym, ap, ◌∙◌, arith}
+use Rattle.std.proofs.Common.{◌≡◌, map, ◌∷◌, [], ◌++◌, take, eqb, true, false, sym, ap, ◌∙◌, arith}
 use Rattle.std.proofs.lemmas.Bool.Decides.{nat_tests}
-use Rattle.std.proofs.lemmas.List.{append-nil, map-append, take_more, map_more}
+use Rattle.std.proofs.lemmas.List.{append-nil, map-append, map_more}
 use Rattle.server_core.specs.Runs.{heard}
-use Rattle.server_core.specs.declared.messages.Entry.{Entry}
 use Rattle.report.proofs.Places.{heard_more}
 use Rattle.report.proofs.outcomes.stories.heard.Goals as goal
 use Rattle.report.proofs.outcomes.stories.heard.Goals.{then-entry-node+in_ok-push, else-entry-node}

@@ -1,11 +1,8 @@
-use Rattle.std.proofs.Common.{◌≡◌, ℕ, List, map, reverse, length, get_or, ◌+◌, ◌<◌, ◌≤◌, ◌∷◌, [], ◌++◌, take, Fits, w32, sym, ap, ap₂, subst, ◌∙◌, arith}
+use Rattle.std.proofs.Common.{ℕ, map, reverse, length, get_or, ◌<◌, ◌∷◌, [], ◌++◌, sym, ap, ap₂, subst, ◌∙◌, arith}
 use Rattle.std.proofs.lemmas.List.{map-append, take_all}
 use Rattle.std.proofs.lemmas.List.Elements.{All-push}
-use Rattle.std.proofs.Math.ListN.{get_or-map}
 use Rattle.txn_program.specs.Serial.{all_ids}
 use Rattle.txn_program.proofs.Ids.{few_ids, id_for_each}
-use Rattle.server_core.specs.declared.messages.Entry.{Entry}
-use Rattle.report.specs.Naming.{entries_of}
 use Rattle.report.specs.Stories.{Tells}
 use Rattle.report.specs.declared.outcomes.stories.Story.{Story}
 use Rattle.report.proofs.Groups.{group_count, group_at}

@@ -1,4 +1,4 @@
-use Rattle.std.proofs.Common.{◌≡◌, map, reverse, take, length}
+use Rattle.std.proofs.Common.{◌≡◌, map, reverse, take}
 use Rattle.std.specs.List.{All}
 use Rattle.txn_program.specs.Serial.{all_ids}
 use Rattle.report.specs.Stories.{Tells}

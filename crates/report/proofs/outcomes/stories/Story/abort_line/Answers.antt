@@ -1,4 +1,4 @@
-use Rattle.std.proofs.Common.{map, List, None, Some, ap, ap₂, sym, ◌∙◌}
+use Rattle.std.proofs.Common.{map, ap, ap₂, sym, ◌∙◌}
 use Rattle.std.proofs.lemmas.Result.{IfOk-weaker}
 use Rattle.server_core.specs.Aborts.{abort_lines, refusal_for}
 use Rattle.server_core.specs.Ends.{attempt}

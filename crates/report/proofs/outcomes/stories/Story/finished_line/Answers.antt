@@ -1,4 +1,4 @@
-use Rattle.std.proofs.Common.{map, ap, ap₂, ◌∙◌}
+use Rattle.std.proofs.Common.{map, ap₂, ◌∙◌}
 use Rattle.report.specs.Finishing.{gathered}
 use Rattle.report.proofs.Finished.{line_told}
 use Rattle.report.proofs.outcomes.stories.Story.finished_line.Goals as goal

@@ -1,4 +1,4 @@
-use Rattle.std.proofs.Common.{◌≡◌, List, map, Bool, true, false, ◌&&◌, sym, ap, ap₂, ◌∙◌}
+use Rattle.std.proofs.Common.{map, ◌&&◌, sym, ap, ap₂, ◌∙◌}
 use Rattle.server_core.specs.Ends.{attempt, dones_for}
 use Rattle.server_core.specs.Replies.{started_for, all_closed}
 use Rattle.report.proofs.Telling.{done_told}

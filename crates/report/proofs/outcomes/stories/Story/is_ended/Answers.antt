@@ -1,5 +1,5 @@
-use Rattle.std.proofs.Common.{◌≡◌, Bool, true, false, ◌||◌, is_some, refl, ap, sym, ◌∙◌}
-use Rattle.server_core.specs.Ends.{attempt, done_turn, all_undone}
+use Rattle.std.proofs.Common.{◌||◌, is_some, refl, ap, sym, ◌∙◌}
+use Rattle.server_core.specs.Ends.{attempt, all_undone}
 use Rattle.report.specs.Stories.{setting_of}
 use Rattle.report.proofs.VotedOutcomes.{over_there, over_here, still_some}
 use Rattle.report.proofs.outcomes.stories.Story.is_ended.Goals as goal

@@ -1,4 +1,4 @@
-use Rattle.std.proofs.Common.{ℕ, List, map, Bool, ◌&&◌, refl, ap, ap₂, sym, ◌∙◌}
+use Rattle.std.proofs.Common.{map, ◌&&◌, refl, ap, ap₂, sym, ◌∙◌}
 use Rattle.server_core.specs.Coordinator.{told}
 use Rattle.server_core.specs.Ends.{attempt, at_home, undones_for}
 use Rattle.server_core.specs.Replies.{started_for, all_closed}

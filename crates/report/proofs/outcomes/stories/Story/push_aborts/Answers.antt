@@ -1,4 +1,4 @@
-use Rattle.std.proofs.Common.{[], ◌++◌, List, option_to_list, ap, sym, ◌∙◌, append-nil}
+use Rattle.std.proofs.Common.{◌++◌, option_to_list, ap, sym, ◌∙◌, append-nil}
 use Rattle.report.specs.Stories.{setting_of}
 use Rattle.report.proofs.Aborting.{turn_more}
 use Rattle.report.proofs.outcomes.stories.Story.push_aborts.Goals as goal

@@ -1,4 +1,4 @@
-use Rattle.std.proofs.Common.{Bor, List, option_map, ap, ◌∙◌}
+use Rattle.std.proofs.Common.{Bor, option_map, ap, ◌∙◌}
 use Rattle.std.specs.List.{find}
 use Rattle.deneva_base.specs.declared.numbers.Attempt.{Attempt}
 use Rattle.server_core.specs.Aborts.{is_ask_of, line_at}

@@ -1,14 +1,14 @@
-use Rattle.std.proofs.Common.{◌≡◌, Bor, List, map, None, refl, Some, option_map, eqb, ltb, true, false, ◌&&◌, ap, ap₂, sym, ◌∙◌, arith}
+use Rattle.std.proofs.Common.{◌≡◌, Bor, map, refl, option_map, eqb, ltb, true, ◌&&◌, ap, ap₂, sym, ◌∙◌, arith}
 use Rattle.std.specs.List.{find}
 use Rattle.std.proofs.lemmas.Bool.Decides.{nat_tests}
 use Rattle.deneva_base.specs.declared.causes.Cause.{Cause}
 use Rattle.deneva_base.specs.declared.numbers.Attempt.{Attempt}
-use Rattle.server_core.specs.Aborts.{is_prepare_of, is_vote_of, line_at, apart_of}
-use Rattle.server_core.specs.Coordinator.{first_no, least_hi, greatest_lo}
+use Rattle.server_core.specs.Aborts.{is_prepare_of, is_vote_of, line_at}
+use Rattle.server_core.specs.Coordinator.{least_hi, greatest_lo}
 use Rattle.server_core.specs.Ends.{attempt}
 use Rattle.server_core.specs.declared.messages.Entry.{Entry}
 use Rattle.report.specs.Seen.{ballot_of, no_of}
-use Rattle.report.proofs.Aborting.{found_in, no_told, apart_told, none_told}
+use Rattle.report.proofs.Aborting.{found_in, no_told, apart_told}
 use Rattle.report.proofs.outcomes.stories.Story.vote_line.Goals as goal
 
 pub returns-in-Some : goal.returns-in-Some
