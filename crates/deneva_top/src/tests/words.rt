@@ -156,6 +156,7 @@ fn other_words_give_no_command(rt: HostRuntime) -> Result<(), Fail> {
         "replay --protocol nowait --attempts 9",
         "replay --protocol nowait --limit 0",
         "replay --protocol nowait --limit 65",
+        "replay --protocol nowait --limit 6 4",
         "replay --protocol NoWait",
         "replay --protocol serial",
         "replay --protocol ",
