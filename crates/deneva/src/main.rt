@@ -6,9 +6,9 @@ ghost use Rattle.std.specs.Prelude.{◌≤◌};
 use deneva_base::NoMemory;
 use deneva_io::{ReadSource, WriteSink};
 use deneva_top::deneva;
-use std::env;
 use std::io::ErrorKind;
 use std::process::ExitCode;
+use std::{env, mem};
 
 /// The statuses of a call that could not be made for want of memory: its line was written, or it was not.
 const NO_MEMORY: u8 = 1;
@@ -39,7 +39,11 @@ fn run(rt: &HostRuntime) -> u8
     };
     let mut source = ReadSource::new(rt.stdin());
     let mut sink = WriteSink::new(rt.stdout());
-    deneva(rt.alloc(), &words, &mut source, &mut sink).status
+    let ended = deneva(rt.alloc(), &words, &mut source, &mut sink);
+    let status = ended.status;
+    // The process ends: to give back a large run piece by piece would take longer than to leave it to the system.
+    mem::forget(ended);
+    status
 }
 
 fn main(rt: HostRuntime) -> ExitCode {
