@@ -70,14 +70,13 @@ type Case<'t> = (&'t str, &'t str, &'t str);
 
 /// The first of the runs that reports something else, or does not end with status 0.
 fn first_other(alloc: Global, cases: &[Case]) -> Result<Option<usize>, NoMemory> {
-    let mut index = 0;
-    for (words, input, text) in cases {
+    for index in 0..cases.len() {
+        let (words, input, text) = &cases[index];
         let line = format!(in alloc; "replay {words}")?;
         let (status, sink) = run(alloc, line.as_str(), input)?;
         if status != 0 || sink.bytes() != text.as_bytes() {
             return Ok(Some(index));
         }
-        index += 1;
     }
     Ok(None)
 }
