@@ -2,3 +2,4 @@ pub mod Ends
 pub mod Accesses
 pub mod Tables
 pub mod Holdings
+pub mod Changes

@@ -5,3 +5,4 @@ mod accesses;
 mod ends;
 mod lines;
 mod parts;
+mod table;
