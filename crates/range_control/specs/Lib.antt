@@ -3,3 +3,4 @@ pub mod Accesses
 pub mod Tables
 pub mod Holdings
 pub mod Changes
+pub mod Standing
