@@ -1,5 +1,5 @@
 -- The first of a list in an order.
-use Rattle.std.proofs.Common.{◌≡◌, ◌⊎◌, List, [], ◌∷◌, Bool, true, false, cond, refl, sym, ap, ◌∙◌, subst, inl, inr, ⊎_elim, arith, Option, Some, None}
+use Rattle.std.proofs.Common.{◌≡◌, ◌⊎◌, List, [], ◌∷◌, ◌++◌, Bool, true, false, cond, refl, sym, ap, ◌∙◌, subst, inl, inr, ⊎_elim, arith, Option, Some, None}
 use Rattle.std.proofs.lemmas.Bool.Decides.{nat_tests}
 use Rattle.deneva_base.specs.declared.causes.Bound.{Bound}
 use Rattle.deneva_base.specs.declared.numbers.Attempt.{Attempt}
@@ -85,3 +85,28 @@ module _ {X A : Type 0} (before : A → A → Bool) (order : Ordered before) (f 
       let rest = first_none (first_of before best (f y)) ys e in
       let here = none_step best (f y) rest.0 in
       (here.0, λ z i. ⊎_elim (λ t. ap f t ∙ here.1) (λ j. rest.1 z j) i)
+
+  -- what one of them gives is not before the first
+  pub first_leaves : (best : Option A) (xs : List X) (y : X) (v : A) → IsIn y xs → f y ≡ Some v → (x : A) × (first_by before f best xs ≡ Some x) × (before v x ≡ false)
+  first_leaves best xs y v i e = go (first_by before f best xs) refl
+    where
+      go : (o : Option A) → first_by before f best xs ≡ o → (x : A) × (first_by before f best xs ≡ Some x) × (before v x ≡ false)
+      go None n = absurd (cc (sym e ∙ (first_none best xs n).1 y i))
+      go (Some x) s = (x, s, (first_some best xs x s).none_before y v i e)
+
+  pub first_keeps : (xs : List X) (v : A) → (x : A) × (first_by before f (Some v) xs ≡ Some x) × (before v x ≡ false)
+  first_keeps xs v = go (first_by before f (Some v) xs) refl
+    where
+      go : (o : Option A) → first_by before f (Some v) xs ≡ o → (x : A) × (first_by before f (Some v) xs ≡ Some x) × (before v x ≡ false)
+      go None n = absurd (cc ((first_none (Some v) xs n).0))
+      go (Some x) s = (x, s, (first_some (Some v) xs x s).best_not v refl)
+
+-- the first of a list with one more
+pub first_more : {X A : Type 0} (before : A → A → Bool) (f : X → Option A) (best : Option A) (xs : List X) (x : X) → first_by before f best (xs ++ x ∷ []) ≡ first_of before (first_by before f best xs) (f x)
+first_more before f best [] x = refl
+first_more before f best (y ∷ ys) x = first_more before f (first_of before best (f y)) ys x
+
+-- elements that give the same
+pub first_same : {X A : Type 0} (before : A → A → Bool) (f g : X → Option A) (best : Option A) (xs : List X) → ((x : X) → IsIn x xs → f x ≡ g x) → first_by before f best xs ≡ first_by before g best xs
+first_same before f g best [] e = refl
+first_same before f g best (x ∷ xs) e = ap (λ o. first_by before f (first_of before best o) xs) (e x (inl refl)) ∙ first_same before f g (first_of before best (g x)) xs (λ y i. e y (inr i))

@@ -21,11 +21,11 @@ use Rattle.range_control.specs.Standing.{State, is_held, held_here, window_in, h
 pub reverse-cons : {A : Type 0} (x : A) (xs : List A) → reverse (x ∷ xs) ≡ reverse xs ++ x ∷ []
 reverse-cons x xs = reverse-append (x ∷ []) xs
 
-in_reverse : {A : Type 0} (x : A) (xs : List A) → IsIn x xs → IsIn x (reverse xs)
+pub in_reverse : {A : Type 0} (x : A) (xs : List A) → IsIn x xs → IsIn x (reverse xs)
 in_reverse x [] i = i
 in_reverse x (y ∷ ys) i = subst (λ l. IsIn x l) (sym (reverse-cons y ys)) (⊎_elim (λ e. in_right x (reverse ys) (y ∷ []) (inl e)) (λ j. in_left x (reverse ys) (y ∷ []) (in_reverse x ys j)) i)
 
-reverse_in : {A : Type 0} (x : A) (xs : List A) → IsIn x (reverse xs) → IsIn x xs
+pub reverse_in : {A : Type 0} (x : A) (xs : List A) → IsIn x (reverse xs) → IsIn x xs
 reverse_in x xs i = subst (λ l. IsIn x l) (reverse-reverse xs) (in_reverse x (reverse xs) i)
 
 -- the window of a vote at a key

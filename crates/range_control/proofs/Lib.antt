@@ -5,3 +5,4 @@ pub mod Histories
 pub mod Holders
 pub mod Leasts
 pub mod Lowering
+pub mod Uppering

@@ -34,16 +34,16 @@ not_over b c e = grind (arith, nat_tests, e)
 not_before : (b c : Bound) → lower_before b c ≡ false → b.n ≡ c.n → key_lt b.key c.key ≡ false
 not_before b c e f = grind (arith, nat_tests, e, f)
 
-eqb_same : (n m : ℕ) → n ≡ m → eqb n m ≡ true
+pub eqb_same : (n m : ℕ) → n ≡ m → eqb n m ≡ true
 eqb_same n m e = grind (arith, nat_tests, e)
 
-eqb_apart : (n m : ℕ) → n < m → eqb n m ≡ false
+pub eqb_apart : (n m : ℕ) → n < m → eqb n m ≡ false
 eqb_apart n m e = grind (arith, nat_tests, e)
 
-same_eqb : (n m : ℕ) → eqb n m ≡ true → n ≡ m
+pub same_eqb : (n m : ℕ) → eqb n m ≡ true → n ≡ m
 same_eqb n m e = grind (arith, nat_tests, e)
 
-none_of : {A : Type 0} (p : A → Bool) (xs : List A) → ((x : A) → IsIn x xs → p x ≡ false) → filter p xs ≡ []
+pub none_of : {A : Type 0} (p : A → Bool) (xs : List A) → ((x : A) → IsIn x xs → p x ≡ false) → filter p xs ≡ []
 none_of p [] n = refl
 none_of p (x ∷ xs) n = rw (n x (inl refl)) (none_of p xs (λ y i. n y (inr i)))
 

@@ -19,7 +19,7 @@ use Rattle.range_control.specs.declared.ends.Upper.{Upper}
 use Rattle.range_control.specs.declared.accesses.Window.{Window}
 use Rattle.range_control.specs.declared.accesses.Held.{Held}
 use Rattle.range_control.specs.declared.table.Table.{Table}
-use Rattle.range_control.specs.Ends.{upper_before, first_of}
+use Rattle.range_control.specs.Ends.{upper_before, first_by}
 use Rattle.range_control.specs.Accesses.{Accesses}
 use Rattle.range_control.specs.Tables.{accesses_at}
 use Rattle.range_control.specs.Holdings.{Holding, holding_at}
@@ -52,14 +52,9 @@ window_in (y ∷ ys) who key = cond (attempt_eq y.who who) (Some (record { lo = 
 abbrev pub under_decided : History → Grant → Decided → Option Upper
 under_decided h g d = cond (wrote h d.who g.key && number_lt g.version d.number) (Some (record { n = d.number.n - 1; by = d.who })) None
 
--- the least of these
-abbrev pub upper_left : History → Grant → List Decided → Option Upper
-upper_left h g [] = None
-upper_left h g (d ∷ ds) = first_of upper_before (upper_left h g ds) (under_decided h g d)
-
 -- what is kept of a granted access
 abbrev pub held_of : History → Grant → Held
-held_of h g = record { who = g.who; mode = g.mode; version = g.version; upper = upper_left h g (decided h); window = window_in (yeas h) g.who g.key }
+held_of h g = record { who = g.who; mode = g.mode; version = g.version; upper = first_by upper_before (under_decided h g) None (reverse (decided h)); window = window_in (yeas h) g.who g.key }
 
 abbrev pub version_of : StoredVersion → Version
 version_of v = record { number = v.number; row = v.row }
@@ -71,8 +66,7 @@ promised_in h (y ∷ ys) = cond (has_ended h y.who) 0 (length y.appends) + promi
 
 -- the least attempt that voted Yes
 abbrev pub first_voter : List Yea → Option Attempt
-first_voter [] = None
-first_voter (y ∷ ys) = first_of attempt_lt (first_voter ys) (Some y.who)
+first_voter ys = first_by attempt_lt (λ y. Some y.who) None (reverse ys)
 
 -- the table has what the history gives
 pub record Tracks (loaded : Rows) (s : State) (h : History) : Type 0 where
