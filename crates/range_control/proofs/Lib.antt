@@ -1,5 +1,6 @@
 pub mod Places
 pub mod Steps
+pub mod Lists
 pub mod Firsts
 pub mod Histories
 pub mod Holders

@@ -69,9 +69,9 @@ module _ (loaded : Rows) (h : History) (s : State) (t : Tracks loaded s h) (one 
       (λ w. inr (
         subst (λ a. IsIn g.key (s.holding a).keys) w.1 (t.noted g i (subst (λ a. IsUnended h a) (sym w.1) unended)),
         ⊎_elim
-        (λ o. asks_same g.key o.0 o.2 o.3 o.4 ∙ ap (low_of h who ws) (granted_once o.0 g o.1 i (o.2 ∙ sym w.1) o.3))
-        (λ n. absurd (n.1 g i w.1 refl))
-        (own loaded h s t who unended g.key),
+            (λ o. asks_same g.key o.0 o.2 o.3 o.4 ∙ ap (low_of h who ws) (granted_once o.0 g o.1 i (o.2 ∙ sym w.1) o.3))
+            (λ n. absurd (n.1 g i w.1 refl))
+            (own loaded h s t who unended g.key),
       ))
       (λ f. inl (ap (λ b. cond b (max (cond (reads g.mode) (suc g.version.n) 0) (cond (lists ws g.key) (past h g.key) 0)) 0) f.0))
       (attempt_tells g.who who)
@@ -121,14 +121,14 @@ module _ (loaded : Rows) (h : History) (s : State) (t : Tracks loaded s h) (one 
         let pos : 1 ≤ b.n = omega (arith, less) in
         let g = best.key pos in
         let listed : IsIn b.key (map (λ (x : Grant). x.key) (filter (λ x. eqb (low_of h who ws x) (low h who bound ws)) (grants h))) =
-            subst (λ k. IsIn k (map (λ (x : Grant). x.key) (filter (λ x. eqb (low_of h who ws x) (low h who bound ws)) (grants h)))) g.2
-            (in_map (λ (x : Grant). x.key) g.0 (filter (λ x. eqb (low_of h who ws x) (low h who bound ws)) (grants h))
-            (in_filter (λ x. eqb (low_of h who ws x) (low h who bound ws)) g.0 (grants h) g.1 (eqb_same (low_of h who ws g.0) (low h who bound ws) (g.3 ∙ n)))) in
+        subst (λ k. IsIn k (map (λ (x : Grant). x.key) (filter (λ x. eqb (low_of h who ws x) (low h who bound ws)) (grants h)))) g.2
+        (in_map (λ (x : Grant). x.key) g.0 (filter (λ x. eqb (low_of h who ws x) (low h who bound ws)) (grants h))
+        (in_filter (λ x. eqb (low_of h who ws x) (low h who bound ws)) g.0 (grants h) g.1 (eqb_same (low_of h who ws g.0) (low h who bound ws) (g.3 ∙ n)))) in
         let first = first_key_is bound.key (map (λ (x : Grant). x.key) (filter (λ x. eqb (low_of h who ws x) (low h who bound ws)) (grants h))) b.key listed
-            (λ q i.
-            let m = in_map_from (λ (x : Grant). x.key) q (filter (λ x. eqb (low_of h who ws x) (low h who bound ws)) (grants h)) i in
-            let f = filter_in (λ x. eqb (low_of h who ws x) (low h who bound ws)) m.0 (grants h) m.1 in
-            subst (λ k. key_lt k b.key ≡ false) (sym m.2) (best.least m.0 f.0 pos (same_eqb (low_of h who ws m.0) (low h who bound ws) f.1 ∙ sym n))) in
+        (λ q i.
+        let m = in_map_from (λ (x : Grant). x.key) q (filter (λ x. eqb (low_of h who ws x) (low h who bound ws)) (grants h)) i in
+        let f = filter_in (λ x. eqb (low_of h who ws x) (low h who bound ws)) m.0 (grants h) m.1 in
+        subst (λ k. key_lt k b.key ≡ false) (sym m.2) (best.least m.0 f.0 pos (same_eqb (low_of h who ws m.0) (low h who bound ws) f.1 ∙ sym n))) in
         let key : lo_key h bound (low_of h who ws) (low h who bound ws) ≡ b.key = rw (eqb_apart bound.n (low h who bound ws) (omega (arith, less, n))) first in
         λ i. record { n = n i; key = sym key i }
 

@@ -86,28 +86,28 @@ module _ (loaded : Rows) (h : History) (s : State) (t : Tracks loaded s h) (soun
               let y = window_found (yeas h) x.who key win f in
               let other : attempt_eq y.0.who who ≡ false = ap (λ a. attempt_eq a who) y.1 ∙ ap (attempt_eq x.who) (sym w) ∙ z in
               let test : (lists y.0.writes g.key && ltb g.version.n y.0.hi) ≡ true =
-                  ap (λ q'. lists y.0.writes q' && ltb g.version.n y.0.hi) k ∙ ap (λ (v : Window). v.writes && ltb g.version.n v.hi) y.3 ∙ q in
+              ap (λ q'. lists y.0.writes q' && ltb g.version.n y.0.hi) k ∙ ap (λ (v : Window). v.writes && ltb g.version.n v.hi) y.3 ∙ q in
               inl (
                 g,
                 y.0,
                 i,
                 y.2,
                 and_true (attempt_eq g.who who) (reads g.mode && (not (attempt_eq y.0.who who) && (not (has_ended h y.0.who) && (lists y.0.writes g.key && ltb g.version.n y.0.hi)))) ((attempt_decides g.who who).1 w)
-                (and_true (reads g.mode) (not (attempt_eq y.0.who who) && (not (has_ended h y.0.who) && (lists y.0.writes g.key && ltb g.version.n y.0.hi))) r
-                (and_true (not (attempt_eq y.0.who who)) (not (has_ended h y.0.who) && (lists y.0.writes g.key && ltb g.version.n y.0.hi)) (ap not other)
-                (and_true (not (has_ended h y.0.who)) (lists y.0.writes g.key && ltb g.version.n y.0.hi) (not_ended h y.0.who (subst (λ a. IsUnended h a) (sym y.1) ux)) test))),
+                    (and_true (reads g.mode) (not (attempt_eq y.0.who who) && (not (has_ended h y.0.who) && (lists y.0.writes g.key && ltb g.version.n y.0.hi))) r
+                    (and_true (not (attempt_eq y.0.who who)) (not (has_ended h y.0.who) && (lists y.0.writes g.key && ltb g.version.n y.0.hi)) (ap not other)
+                    (and_true (not (has_ended h y.0.who)) (lists y.0.writes g.key && ltb g.version.n y.0.hi) (not_ended h y.0.who (subst (λ a. IsUnended h a) (sym y.1) ux)) test))),
                 sym (some_is (window_end win x.who) u eq') ∙ (λ j. record { n = ap (λ (v : Window). v.lo - 1) (sym y.3) j; by = sym y.1 j }),
               )
 
       -- a committed one
-      committed : (g : Grant) → IsIn g (grants h) → g.who ≡ who → reads g.mode ≡ true → (d : Decided) → IsIn d (decided h) → (b : Bool) → (wrote h d.who g.key && number_lt g.version d.number) ≡ b → cond b (Some (committed_end d)) None ≡ Some u → Gives h who u
-      committed g i w r d j false q eq = absurd (cc eq)
-      committed g i w r d j true q eq = inr (
+      committed : (g : Grant) → IsIn g (grants h) → g.who ≡ who → (d : Decided) → IsIn d (decided h) → (b : Bool) → (reads g.mode && (wrote h d.who g.key && number_lt g.version d.number)) ≡ b → cond b (Some (committed_end d)) None ≡ Some u → Gives h who u
+      committed g i w d j false q eq = absurd (cc eq)
+      committed g i w d j true q eq = inr (
         g,
         d,
         i,
         j,
-        and_true (attempt_eq g.who who) (reads g.mode && (wrote h d.who g.key && number_lt g.version d.number)) ((attempt_decides g.who who).1 w) (and_true (reads g.mode) (wrote h d.who g.key && number_lt g.version d.number) r q),
+        and_true (attempt_eq g.who who) (reads g.mode && (wrote h d.who g.key && number_lt g.version d.number)) ((attempt_decides g.who who).1 w) q,
         sym (some_is (committed_end d) u eq),
       )
 
@@ -118,7 +118,7 @@ module _ (loaded : Rows) (h : History) (s : State) (t : Tracks loaded s h) (soun
           ⊎_elim
           (λ c.
           let d = (first_some upper_before uppers_ordered (under_decided h g) None (reverse (decided h)) u c).from in
-          ⊎_elim (λ z. absurd (cc z)) (λ z. committed g i w r z.0 (reverse_in z.0 (decided h) z.1) (wrote h z.0.who g.key && number_lt g.version z.0.number) refl z.2) d)
+          ⊎_elim (λ z. absurd (cc z)) (λ z. committed g i w z.0 (reverse_in z.0 (decided h) z.1) (reads g.mode && (wrote h z.0.who g.key && number_lt g.version z.0.number)) refl z.2) d)
           (λ a.
           let x = real loaded h s t key a.0 a.1 in
           prepared g i w k r x.0 x.2 x.3 (window_in (yeas h) x.0.who key) refl (attempt_eq x.0.who g.who) refl
@@ -156,10 +156,10 @@ module _ (loaded : Rows) (h : History) (s : State) (t : Tracks loaded s h) (soun
           let window : window_in (yeas h) o.0.who o.0.key ≡ Some (window_of y g.key) = ap (λ a. window_in (yeas h) a o.0.key) o.2 ∙ ap (window_in (yeas h) y.who) at ∙ window_some (yeas h) y g.key sound.one j in
           let other : attempt_eq o.0.who g.who ≡ false = ap (λ a. attempt_eq a g.who) o.2 ∙ ap (attempt_eq y.who) w ∙ flip (attempt_eq y.who who) p2.0 in
           let left : left_by g.who g.version (held_of h o.0) ≡ Some v =
-              ap (λ b. cond b None (under (window_in (yeas h) o.0.who o.0.key) g.version o.0.who)) other
-              ∙ ap (λ win. under win g.version o.0.who) window
-              ∙ ap (λ b. cond b (Some (window_end (window_of y g.key) o.0.who)) None) p3.1
-              ∙ ap (λ a. Some (window_end (window_of y g.key) a)) o.2 ∙ ap (λ z. Some z) (sym e) in
+          ap (λ b. cond b None (under (window_in (yeas h) o.0.who o.0.key) g.version o.0.who)) other
+          ∙ ap (λ win. under win g.version o.0.who) window
+          ∙ ap (λ b. cond b (Some (window_end (window_of y g.key) o.0.who)) None) p3.1
+          ∙ ap (λ a. Some (window_end (window_of y g.key) a)) o.2 ∙ ap (λ z. Some z) (sym e) in
           let r = first_leaves upper_before uppers_ordered (left_by g.who g.version) (held_of h g).upper (s.lines g.key).held (held_of h o.0) v there left in
           (r.0, g.key, noted g i w, upper_is g i w p1.0 ∙ r.1, r.2)
         where
@@ -172,10 +172,9 @@ module _ (loaded : Rows) (h : History) (s : State) (t : Tracks loaded s h) (soun
           let p0 = and_parts (attempt_eq g.who who) (reads g.mode && (wrote h d.who g.key && number_lt g.version d.number)) test in
           let p1 = and_parts (reads g.mode) (wrote h d.who g.key && number_lt g.version d.number) p0.1 in
           let w : g.who ≡ who = (attempt_decides g.who who).0 p0.0 in
-          let left : under_decided h g d ≡ Some v = ap (λ b. cond b (Some (committed_end d)) None) p1.1 ∙ ap (λ z. Some z) (sym e) in
+          let left : under_decided h g d ≡ Some v = ap (λ b. cond b (Some (committed_end d)) None) p0.1 ∙ ap (λ z. Some z) (sym e) in
           let q = first_leaves upper_before uppers_ordered (under_decided h g) None (reverse (decided h)) d v (in_reverse d (decided h) j) left in
-          let r = first_keeps upper_before uppers_ordered (left_by g.who g.version) (s.lines g.key).held q.0 in
-          (
+          let r = first_keeps upper_before uppers_ordered (left_by g.who g.version) (s.lines g.key).held q.0 in (
             r.0,
             g.key,
             noted g i w,

@@ -59,9 +59,9 @@ upper_in held (Some a) = cond (reads a.mode) (first_by upper_before (left_by a.w
 abbrev pub prepared_in : Attempt → Window → Held → Held
 prepared_in who w a = record { who = a.who; mode = a.mode; version = a.version; upper = a.upper; window = cond (attempt_eq a.who who) (Some w) a.window }
 
--- the access once an attempt has written the key under a number
+-- the access once an attempt has written the key under a number: a reader of a version below it ends before it
 abbrev pub overtaken : Attempt → Number → Held → Held
-overtaken by number a = record { who = a.who; mode = a.mode; version = a.version; upper = cond (number_lt a.version number) (first_of upper_before a.upper (Some (record { n = number.n - 1; by = by }))) a.upper; window = a.window }
+overtaken by number a = record { who = a.who; mode = a.mode; version = a.version; upper = cond (reads a.mode && number_lt a.version number) (first_of upper_before a.upper (Some (record { n = number.n - 1; by = by }))) a.upper; window = a.window }
 
 abbrev pub is_writing : Option Window → Bool
 is_writing None = false

@@ -5,6 +5,7 @@ use Rattle.deneva_base.specs.declared.keys.Key.{Key}
 use Rattle.deneva_base.specs.declared.numbers.Attempt.{Attempt}
 use Rattle.deneva_base.specs.Lists.{IsIn, greatest_by}
 use Rattle.deneva_base.specs.Keys.{key_eq, attempt_eq, attempt_lt, number_lt}
+use Rattle.deneva_base.specs.Modes.{reads}
 use Rattle.deneva_base.specs.Rows.{Row, Rows}
 use Rattle.deneva_base.specs.History.{History, Grant, Yea, Decided, grants, yeas, decided, IsUnended}
 use Rattle.deneva_base.specs.Latest.{Version, writes_in, has_ended}
@@ -48,9 +49,9 @@ abbrev pub window_in : List Yea → Attempt → Key → Option Window
 window_in [] who key = None
 window_in (y ∷ ys) who key = cond (attempt_eq y.who who) (Some (record { lo = y.lo; hi = y.hi; writes = lists y.writes key })) (window_in ys who key)
 
--- one below the number of a committed attempt that wrote the key above the version
+-- one below the number of a committed attempt that wrote the key above the version read
 abbrev pub under_decided : History → Grant → Decided → Option Upper
-under_decided h g d = cond (wrote h d.who g.key && number_lt g.version d.number) (Some (record { n = d.number.n - 1; by = d.who })) None
+under_decided h g d = cond (reads g.mode && (wrote h d.who g.key && number_lt g.version d.number)) (Some (record { n = d.number.n - 1; by = d.who })) None
 
 -- what is kept of a granted access
 abbrev pub held_of : History → Grant → Held

@@ -69,11 +69,11 @@ impl Held {
         }
     }
 
-    /// The access once an attempt has written the key under a number.
+    /// The access once an attempt has written the key under a number: one that read a lesser version ends before it.
     fn overtaken(self, by: Attempt, number: Number) -> Held
         ensures { result ≡ overtaken by number self }
     {
-        if number <= self.version {
+        if !self.mode.is_reading() || number <= self.version {
             return self;
         }
         let n = number.n.saturating_sub(1);
