@@ -5,5 +5,6 @@ pub mod Firsts
 pub mod Histories
 pub mod Holders
 pub mod Leasts
+pub mod Asking
 pub mod Lowering
 pub mod Uppering
