@@ -6,5 +6,7 @@ pub mod Histories
 pub mod Holders
 pub mod Leasts
 pub mod Asking
+pub mod Changing
+pub mod Preparing
 pub mod Lowering
 pub mod Uppering

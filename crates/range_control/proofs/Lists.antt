@@ -39,3 +39,7 @@ filter_map f p q (x ∷ xs) e = go (q x) (e x) (filter_map f p q xs e)
 pub filter_all : {A : Type 0} (p : A → Bool) (xs : List A) → ((x : A) → IsIn x xs → p x ≡ true) → filter p xs ≡ xs
 filter_all p [] e = refl
 filter_all p (x ∷ xs) e = rw (e x (inl refl)) (ap (λ ys. x ∷ ys) (filter_all p xs (λ y i. e y (inr i))))
+
+pub map_none : {A : Type 0} (f : A → A) (xs : List A) → ((x : A) → IsIn x xs → f x ≡ x) → map f xs ≡ xs
+map_none f [] e = refl
+map_none f (x ∷ xs) e = ap₂ (λ y ys. y ∷ ys) (e x (inl refl)) (map_none f xs (λ y i. e y (inr i)))
