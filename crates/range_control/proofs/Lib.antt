@@ -8,5 +8,6 @@ pub mod Leasts
 pub mod Asking
 pub mod Changing
 pub mod Preparing
+pub mod Ending
 pub mod Lowering
 pub mod Uppering
