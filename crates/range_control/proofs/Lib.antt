@@ -9,5 +9,8 @@ pub mod Asking
 pub mod Changing
 pub mod Preparing
 pub mod Ending
+pub mod Answering
+pub mod Outcomes
+pub mod Calls
 pub mod Lowering
 pub mod Uppering

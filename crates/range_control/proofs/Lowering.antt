@@ -63,6 +63,9 @@ module _ (loaded : Rows) (h : History) (s : State) (t : Tracks loaded s h) (one 
       (λ n. inl (ap (low_in (lists ws key) (past_over (s.lines key))) n.0))
       (own loaded h s t who unended key)
 
+  pub low_below : (key : Key) → low_key s who ws key ≤ greatest_by (low_of h who ws) (grants h)
+  low_below key = ⊎_elim (λ z. omega (arith, z)) (λ g. omega (arith, g.3, top_by (low_of h who ws) g.0 (grants h) g.1)) (from_grant key)
+
   -- and each access is at a key of the attempt
   from_key : (g : Grant) → IsIn g (grants h) → (low_of h who ws g ≡ 0) ⊎ (IsIn g.key (s.holding who).keys × (low_key s who ws g.key ≡ low_of h who ws g))
   from_key g i = ⊎_elim
@@ -102,10 +105,7 @@ module _ (loaded : Rows) (h : History) (s : State) (t : Tracks loaded s h) (one 
       there = ⊎_elim (λ z. absurd (cc (z))) (λ k. (k.0, k.1, some_is (with_n (low_key s who ws k.0) k.0) b k.2)) f.from
 
       at_most : b.n ≤ greatest_by (low_of h who ws) (grants h)
-      at_most = ⊎_elim
-          (λ z. omega (arith, z, ap (λ (x : Bound). x.n) there.2))
-          (λ g. omega (arith, g.3, ap (λ (x : Bound). x.n) there.2, top_by (low_of h who ws) g.0 (grants h) g.1))
-          (from_grant there.0)
+      at_most = omega (arith, low_below there.0, ap (λ (x : Bound). x.n) there.2)
 
       at_least : greatest_by (low_of h who ws) (grants h) ≤ b.n
       at_least = greatest_le (low_of h who ws) b.n (grants h) (λ g i. ⊎_elim
