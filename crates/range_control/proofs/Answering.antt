@@ -1,5 +1,5 @@
 -- What a table that stands for a history answers.
-use Rattle.std.proofs.Common.{◌≡◌, ◌≢◌, ◌⊎◌, ℕ, suc, max, ◌≤◌, List, [], ◌∷◌, map, Bool, true, false, cond, refl, sym, ap, ap₂, ◌∙◌, subst, inl, inr, ⊎_elim, arith, Option, Some, None, option_map, is_some}
+use Rattle.std.proofs.Common.{◌≡◌, ℕ, suc, max, ◌≤◌, [], Bool, true, false, cond, refl, sym, ap, ap₂, ◌∙◌, subst, arith, Option, Some, None, option_map, is_some}
 use Rattle.deneva_base.specs.declared.keys.Key.{Key}
 use Rattle.deneva_base.specs.declared.keys.Mode.{Mode}
 use Rattle.deneva_base.specs.declared.keys.Mode.TheVariants.{Read, Update, Put}

@@ -1,5 +1,5 @@
 -- The table tracks the history with one more Ask.
-use Rattle.std.proofs.Common.{◌≡◌, ◌≢◌, ◌⊎◌, ℕ, suc, ◌-◌, List, [], ◌∷◌, ◌++◌, map, filter, reverse, Bool, true, false, not, ◌&&◌, ◌||◌, cond, refl, sym, ap, ◌∙◌, subst, inl, inr, ⊎_elim, arith, Option, Some, None, option_map}
+use Rattle.std.proofs.Common.{◌≡◌, ◌≢◌, ◌⊎◌, ℕ, suc, ◌-◌, List, [], ◌∷◌, ◌++◌, map, filter, reverse, Bool, true, false, ◌&&◌, ◌||◌, cond, refl, sym, ap, ◌∙◌, subst, inl, inr, ⊎_elim, arith, Option, Some, None, option_map}
 use Rattle.std.specs.List.{list_any}
 use Rattle.std.specs.FinMap.{get}
 use Rattle.std.proofs.lemmas.List.{map-append, append-nil}
@@ -14,14 +14,13 @@ use Rattle.deneva_base.specs.Rows.{Row, Rows}
 use Rattle.deneva_base.specs.Modes.{reads}
 use Rattle.deneva_base.specs.Keys.{key_eq, attempt_eq, number_lt, loaded_version}
 use Rattle.deneva_base.specs.Conditions.{MayAsk}
-use Rattle.deneva_base.specs.History.{Ask, History, Grant, Yea, Decided, grants, yeas, decided, ended, closed, IsUnended}
-use Rattle.deneva_base.specs.Latest.{Version, latest, has_ended, seen}
+use Rattle.deneva_base.specs.History.{Ask, History, Grant, Yea, Decided, grants, yeas, decided, ended, closed}
+use Rattle.deneva_base.specs.Latest.{Version, latest, seen}
 use Rattle.deneva_base.specs.Ranged.{wrote, accessed, past_committed}
 use Rattle.deneva_base.proofs.Words.{any_found, in_left, in_right, key_decides, key_tells, attempt_tells, not_ended}
 use Rattle.deneva_base.proofs.Sound.{Sound}
 use Rattle.row_store.specs.Stores.{version_at}
 use Rattle.range_control.specs.declared.ends.Upper.{Upper}
-use Rattle.range_control.specs.declared.accesses.Held.{Held}
 use Rattle.range_control.specs.declared.table.Table.{Table}
 use Rattle.range_control.specs.Ends.{upper_before, first_of, first_by}
 use Rattle.range_control.specs.Accesses.{Accesses, with_access}
@@ -143,7 +142,7 @@ module _ (loaded : Rows) (h : History) (sound : Sound loaded h) (who : Attempt) 
         let s' : State = state_of new in
         let n = noted who key s s' c.parts in
         let cases : (k : Key) → ((key ≡ k) × (s'.lines k ≡ with_access (new_access who mode version) (s.lines key))) ⊎ ((key ≢ k) × (s'.lines k ≡ s.lines k)) =
-            λ k. at_key key k (s'.lines k) (with_access (new_access who mode version) (s.lines key)) (s.lines k) (c.lines k) in
+        λ k. at_key key k (s'.lines k) (with_access (new_access who mode version) (s.lines key)) (s.lines k) (c.lines k) in
         record {
           held = λ k. ⊎_elim
               (λ x.

@@ -1,5 +1,5 @@
 -- The calls of a table that stands for a history.
-use Rattle.std.proofs.Common.{◌≡◌, ◌⊎◌, ℕ, suc, ◌+◌, ◌^◌, ◌<◌, ◌≤◌, List, [], ◌∷◌, Bool, true, false, not, ◌&&◌, cond, length, refl, sym, ap, ap₂, ◌∙◌, subst, inl, ⊎_elim, arith, Option, Some, None, option_map}
+use Rattle.std.proofs.Common.{◌≡◌, ℕ, suc, ◌+◌, ◌^◌, ◌<◌, ◌≤◌, List, [], ◌∷◌, Bool, true, false, not, ◌&&◌, cond, length, refl, ap, ap₂, ◌∙◌, inl, ⊎_elim, arith, Option, Some, None, option_map}
 use Rattle.deneva_base.specs.declared.keys.Key.{Key}
 use Rattle.deneva_base.specs.declared.keys.Mode.{Mode}
 use Rattle.deneva_base.specs.declared.numbers.Attempt.{Attempt}
@@ -8,18 +8,16 @@ use Rattle.deneva_base.specs.declared.rows.Keyed.{Keyed}
 use Rattle.deneva_base.specs.declared.causes.Bound.{Bound}
 use Rattle.deneva_base.specs.declared.answers.Answer.TheVariants.{Granted}
 use Rattle.deneva_base.specs.declared.answers.Vote.{Vote}
-use Rattle.deneva_base.specs.Lists.{IsIn, greatest_by, least_by}
+use Rattle.deneva_base.specs.Lists.{IsIn, least_by}
 use Rattle.deneva_base.specs.Rows.{Row, Rows}
 use Rattle.deneva_base.specs.Conditions.{MayAsk, MayPrepare, MayCommit, MayAbort}
 use Rattle.deneva_base.specs.History.{Ask, Prepare, Commit, Abort, History, Asked, Grant, Yea, Decided, grants, waits, yeas, decided, IsUnended}
 use Rattle.deneva_base.specs.Latest.{latest, has_ended, seen}
 use Rattle.deneva_base.specs.Leaving.{rows_left}
-use Rattle.deneva_base.specs.Ranged.{accessed, past_committed, past_prepared, past, grant_latest, low_of, low, under_prepared, high, lo_key, hi_by, window_vote}
+use Rattle.deneva_base.specs.Ranged.{accessed, past_committed, past_prepared, grant_latest, low_of, low, under_prepared, high, lo_key, hi_by, window_vote}
 use Rattle.deneva_base.specs.Maat.{maat, maat_vote}
-use Rattle.deneva_base.specs.Windows.{IsVersion}
 use Rattle.deneva_base.specs.Wakes.{KeepsWakes}
 use Rattle.deneva_base.proofs.Belows.{greatest_le}
-use Rattle.deneva_base.proofs.Timestamps.{top_by}
 use Rattle.deneva_base.proofs.Sound.{Sound, sound}
 use Rattle.deneva_base.proofs.Known.{Known, known}
 use Rattle.deneva_base.proofs.Traced.{Traced, traced}

@@ -1,6 +1,5 @@
 -- A change at each key of an attempt is one at every key.
-use Rattle.std.proofs.Common.{◌≡◌, ◌≢◌, ◌⊎◌, List, [], ◌∷◌, map, filter, Bool, true, false, not, ◌&&◌, ◌||◌, cond, refl, sym, ap, ◌∙◌, subst, inl, inr, ⊎_elim, arith, Option, Some, None, true≢false}
-use Rattle.std.proofs.lemmas.Bool.Decides.{nat_tests}
+use Rattle.std.proofs.Common.{◌≡◌, ◌≢◌, ◌⊎◌, List, [], ◌∷◌, filter, Bool, true, false, not, cond, refl, sym, ap, ◌∙◌, inl, inr, ⊎_elim, Option, Some, None, true≢false}
 use Rattle.deneva_base.specs.declared.keys.Key.{Key}
 use Rattle.deneva_base.specs.declared.numbers.Attempt.{Attempt}
 use Rattle.deneva_base.specs.declared.numbers.Number.{Number}
@@ -10,7 +9,7 @@ use Rattle.deneva_base.proofs.Words.{filter_in, attempt_tells}
 use Rattle.range_control.specs.declared.accesses.Window.{Window}
 use Rattle.range_control.specs.declared.accesses.Held.{Held}
 use Rattle.range_control.specs.Accesses.{Accesses, own_in, prepared_in, prepared, passed, without, ended_in}
-use Rattle.range_control.specs.Tables.{same_key, changed}
+use Rattle.range_control.specs.Tables.{changed}
 use Rattle.range_control.proofs.Places.{same_tells}
 use Rattle.range_control.proofs.Lists.{map_both, map_none, filter_all}
 use Rattle.range_control.proofs.Holders.{own_cases}

@@ -1,11 +1,8 @@
 -- The first of a list in an order.
 use Rattle.std.proofs.Common.{◌≡◌, ◌⊎◌, List, [], ◌∷◌, ◌++◌, Bool, true, false, cond, refl, sym, ap, ◌∙◌, subst, inl, inr, ⊎_elim, arith, Option, Some, None}
 use Rattle.std.proofs.lemmas.Bool.Decides.{nat_tests}
-use Rattle.deneva_base.specs.declared.causes.Bound.{Bound}
-use Rattle.deneva_base.specs.declared.numbers.Attempt.{Attempt}
 use Rattle.deneva_base.specs.Keys.{attempt_lt}
 use Rattle.deneva_base.specs.Lists.{IsIn}
-use Rattle.range_control.specs.declared.ends.Upper.{Upper}
 use Rattle.range_control.specs.Ends.{upper_before, lower_before, first_of, first_by}
 
 pub record Ordered {A : Type 0} (before : A → A → Bool) : Type 0 where

@@ -1,17 +1,16 @@
 -- What holds of the votes and commits of every history under MAAT.
-use Rattle.std.proofs.Common.{◌≡◌, ◌≢◌, ◌⊎◌, ℕ, ◌+◌, ◌-◌, ◌^◌, ◌<◌, ◌≤◌, max, min, List, [], ◌∷◌, ◌++◌, true, false, ◌&&◌, ◌||◌, Option, Some, None, refl, sym, ap, ◌∙◌, subst, inl, inr, ⊎_elim, arith}
+use Rattle.std.proofs.Common.{◌≡◌, ◌≢◌, ℕ, ◌^◌, ◌<◌, ◌≤◌, List, [], ◌∷◌, ◌++◌, true, false, ◌&&◌, ◌||◌, Option, Some, None, refl, sym, ap, ◌∙◌, subst, inl, inr, ⊎_elim, arith}
 use Rattle.std.proofs.lemmas.Bool.Decides.{nat_tests}
 use Rattle.std.specs.Prelude.{⊤}
 use Rattle.deneva_base.specs.declared.keys.Key.{Key}
 use Rattle.deneva_base.specs.declared.numbers.Attempt.{Attempt}
 use Rattle.deneva_base.specs.declared.numbers.Number.{Number}
 use Rattle.deneva_base.specs.declared.rows.Keyed.{Keyed}
-use Rattle.deneva_base.specs.declared.answers.Answer.{Answer}
 use Rattle.deneva_base.specs.declared.answers.Vote.{Vote}
 use Rattle.deneva_base.specs.declared.answers.Vote.TheVariants.{Yes, No}
-use Rattle.deneva_base.specs.Lists.{IsIn, greatest_by, least_by}
+use Rattle.deneva_base.specs.Lists.{IsIn, least_by}
 use Rattle.deneva_base.specs.Rows.{Row, Rows}
-use Rattle.deneva_base.specs.History.{Ask, Prepare, Commit, Abort, History, Grant, Yea, Decided, grants, granted, yea, yeas, decided, ended, closed}
+use Rattle.deneva_base.specs.History.{Ask, Prepare, Commit, Abort, History, Grant, Yea, Decided, grants, yea, yeas, decided, ended, closed}
 use Rattle.deneva_base.specs.Keys.{key_eq, attempt_eq, number_lt}
 use Rattle.deneva_base.specs.Latest.{Version, newer, latest, row_for, writes_in}
 use Rattle.deneva_base.specs.Ranged.{lists, wrote, low_of, low, under_prepared, high, lo_key, hi_by}

@@ -1,5 +1,5 @@
 -- Maps and filters of lists.
-use Rattle.std.proofs.Common.{◌≡◌, ◌≢◌, ◌⊎◌, ℕ, max, List, [], ◌∷◌, ◌++◌, map, filter, Bool, true, false, not, ◌&&◌, cond, refl, sym, ap, ap₂, ◌∙◌, subst, inl, inr, ⊎_elim}
+use Rattle.std.proofs.Common.{◌≡◌, ℕ, max, List, [], ◌∷◌, map, filter, Bool, true, false, ◌&&◌, cond, refl, sym, ap, ap₂, ◌∙◌, inl, inr}
 use Rattle.deneva_base.specs.Lists.{IsIn, greatest_by}
 
 pub map_same : {A B : Type 0} (f g : A → B) (xs : List A) → ((x : A) → IsIn x xs → f x ≡ g x) → map f xs ≡ map g xs

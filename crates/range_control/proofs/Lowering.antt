@@ -1,5 +1,5 @@
 -- The lower end that the table gives is the rule's.
-use Rattle.std.proofs.Common.{◌≡◌, ◌≢◌, ◌⊎◌, ℕ, suc, ◌≤◌, ◌<◌, max, List, [], ◌∷◌, map, filter, Bool, true, false, ◌&&◌, ◌||◌, ◌==◌, eqb, ltb, cond, refl, sym, ap, ◌∙◌, subst, inl, inr, ⊎_elim, arith, Option, Some, None, true≢false}
+use Rattle.std.proofs.Common.{◌≡◌, ◌⊎◌, ℕ, suc, ◌≤◌, ◌<◌, max, List, [], ◌∷◌, map, filter, Bool, true, false, eqb, ltb, cond, refl, sym, ap, ◌∙◌, subst, inl, inr, ⊎_elim, arith, Option, Some, None}
 use Rattle.std.proofs.lemmas.Bool.Decides.{nat_tests}
 use Rattle.deneva_base.specs.declared.keys.Key.{Key}
 use Rattle.deneva_base.specs.declared.numbers.Attempt.{Attempt}
@@ -8,7 +8,7 @@ use Rattle.deneva_base.specs.declared.rows.Keyed.{Keyed}
 use Rattle.deneva_base.specs.Lists.{IsIn, greatest_by}
 use Rattle.deneva_base.specs.Rows.{Rows}
 use Rattle.deneva_base.specs.Modes.{reads}
-use Rattle.deneva_base.specs.Keys.{attempt_eq, key_lt}
+use Rattle.deneva_base.specs.Keys.{key_lt}
 use Rattle.deneva_base.specs.History.{History, Grant, Yea, grants, yeas, IsUnended}
 use Rattle.deneva_base.specs.Ranged.{lists, past, low_of, low, first_key, lo_key}
 use Rattle.deneva_base.proofs.Words.{in_map, in_map_from, in_filter, filter_in, attempt_decides, attempt_tells}

@@ -1,7 +1,6 @@
 -- The table tracks the history with one more Prepare.
-use Rattle.std.proofs.Common.{◌≡◌, ◌≢◌, ◌⊎◌, ℕ, ◌+◌, ◌-◌, ◌≤◌, List, [], ◌∷◌, ◌++◌, map, reverse, Bool, true, false, not, ◌&&◌, ◌||◌, cond, length, refl, sym, ap, ◌∙◌, subst, inl, inr, ⊎_elim, arith, Option, Some, None, option_map, true≢false}
+use Rattle.std.proofs.Common.{◌≡◌, ◌≢◌, ◌⊎◌, ℕ, ◌-◌, List, ◌∷◌, map, reverse, Bool, true, false, not, ◌&&◌, cond, refl, sym, ap, ◌∙◌, subst, inl, inr, ⊎_elim, arith, Some, None, option_map, true≢false}
 use Rattle.std.specs.FinMap.{get}
-use Rattle.std.proofs.lemmas.Bool.Decides.{nat_tests}
 use Rattle.deneva_base.specs.declared.keys.Key.{Key}
 use Rattle.deneva_base.specs.declared.numbers.Attempt.{Attempt}
 use Rattle.deneva_base.specs.declared.causes.Bound.{Bound}
@@ -16,7 +15,7 @@ use Rattle.deneva_base.specs.Keys.{key_eq, attempt_eq, attempt_lt, number_lt}
 use Rattle.deneva_base.specs.Conditions.{MayPrepare}
 use Rattle.deneva_base.specs.History.{Prepare, History, Grant, Yea, Decided, grants, yeas, decided, ended, IsUnended}
 use Rattle.deneva_base.specs.Latest.{has_ended, writes_in}
-use Rattle.deneva_base.specs.Ranged.{lists, wrote}
+use Rattle.deneva_base.specs.Ranged.{lists}
 use Rattle.deneva_base.proofs.Words.{filter_in, and_parts, key_decides, attempt_tells, not_ended}
 use Rattle.deneva_base.proofs.Sound.{Sound}
 use Rattle.control_core.proofs.Lasts.{appends_in}
@@ -29,7 +28,7 @@ use Rattle.range_control.specs.Accesses.{Accesses, prepared_in}
 use Rattle.range_control.specs.Tables.{prepared_at}
 use Rattle.range_control.specs.Holdings.{Holding, with_rows}
 use Rattle.range_control.specs.Changes.{Promises, Votes}
-use Rattle.range_control.specs.Standing.{State, state_of, is_held, held_here, window_in, under_decided, held_of, first_voter, Tracks, version_of}
+use Rattle.range_control.specs.Standing.{State, state_of, is_held, held_here, window_in, under_decided, held_of, Tracks, version_of}
 use Rattle.range_control.proofs.Firsts.{first_more, first_same}
 use Rattle.range_control.proofs.Lists.{map_both}
 use Rattle.range_control.proofs.Histories.{wrote_other}

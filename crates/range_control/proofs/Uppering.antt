@@ -1,5 +1,5 @@
 -- The upper end that the table gives is the rule's.
-use Rattle.std.proofs.Common.{◌≡◌, ◌≢◌, ◌⊎◌, ℕ, ◌-◌, ◌^◌, ◌≤◌, ◌<◌, min, List, [], ◌∷◌, ◌++◌, map, filter, reverse, Bool, true, false, not, ◌&&◌, ◌||◌, ◌==◌, eqb, ltb, cond, refl, sym, ap, ◌∙◌, subst, inl, inr, ⊎_elim, arith, Option, Some, None, true≢false}
+use Rattle.std.proofs.Common.{◌≡◌, ◌⊎◌, ℕ, ◌-◌, ◌^◌, ◌≤◌, ◌<◌, List, [], ◌∷◌, ◌++◌, map, filter, reverse, Bool, true, false, not, ◌&&◌, eqb, ltb, cond, refl, sym, ap, ◌∙◌, subst, inl, inr, ⊎_elim, arith, Option, Some, None, true≢false}
 use Rattle.std.proofs.lemmas.Bool.Decides.{nat_tests}
 use Rattle.std.specs.List.{list_any}
 use Rattle.deneva_base.specs.declared.keys.Key.{Key}
@@ -12,16 +12,15 @@ use Rattle.deneva_base.specs.Keys.{key_eq, attempt_eq, attempt_lt, number_lt}
 use Rattle.deneva_base.specs.History.{History, Grant, Yea, Decided, grants, yeas, decided, IsUnended}
 use Rattle.deneva_base.specs.Latest.{has_ended}
 use Rattle.deneva_base.specs.Ranged.{lists, wrote, under_prepared, under_committed, high, first_attempt, hi_by}
-use Rattle.deneva_base.proofs.Words.{in_left, in_right, in_cases, in_map, in_map_from, in_filter, filter_in, any_at, any_found, and_true, and_parts, key_decides, attempt_decides, attempt_tells, not_ended, is_unended}
+use Rattle.deneva_base.proofs.Words.{in_left, in_right, in_cases, in_map, in_map_from, in_filter, filter_in, any_at, any_found, and_true, and_parts, key_decides, attempt_decides, not_ended, is_unended}
 use Rattle.deneva_base.proofs.Sound.{Sound}
-use Rattle.deneva_base.proofs.Rangeds.{bottom_by, not_same}
+use Rattle.deneva_base.proofs.Rangeds.{bottom_by}
 use Rattle.range_control.specs.declared.ends.Upper.{Upper}
 use Rattle.range_control.specs.declared.accesses.Window.{Window}
-use Rattle.range_control.specs.declared.accesses.Held.{Held}
 use Rattle.range_control.specs.Ends.{upper_before, first_by, upper_end, attempt_or}
 use Rattle.range_control.specs.Accesses.{own_in, under, left_by, upper_in}
 use Rattle.range_control.specs.Standing.{State, under_decided, window_in, held_of, first_voter, Tracks}
-use Rattle.range_control.proofs.Firsts.{First, first_some, first_none, first_leaves, first_keeps, some_is, uppers_ordered, attempts_ordered}
+use Rattle.range_control.proofs.Firsts.{first_some, first_none, first_leaves, first_keeps, some_is, uppers_ordered, attempts_ordered}
 use Rattle.range_control.proofs.Leasts.{first_attempt_is}
 use Rattle.range_control.proofs.Histories.{InRange, least_most, least_ge}
 use Rattle.range_control.proofs.Holders.{own, listed, real, in_reverse, reverse_in, window_of, window_some, window_found}
