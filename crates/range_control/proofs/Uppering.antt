@@ -154,11 +154,11 @@ module _ (loaded : Rows) (h : History) (s : State) (t : Tracks loaded s h) (soun
           let there : IsIn (held_of h o.0) (s.lines g.key).held = subst (λ k. IsIn (held_of h o.0) (s.lines k).held) at (listed loaded h s t o.0 o.1 (subst (λ a. IsUnended h a) (sym o.2) (is_unended h y.who p3.0))) in
           let window : window_in (yeas h) o.0.who o.0.key ≡ Some (window_of y g.key) = ap (λ a. window_in (yeas h) a o.0.key) o.2 ∙ ap (window_in (yeas h) y.who) at ∙ window_some (yeas h) y g.key sound.one j in
           let other : attempt_eq o.0.who g.who ≡ false = ap (λ a. attempt_eq a g.who) o.2 ∙ ap (attempt_eq y.who) w ∙ flip (attempt_eq y.who who) p2.0 in
-          let left : left_by g.who g.version (held_of h o.0) ≡ Some v =
-          ap (λ b. cond b None (under (window_in (yeas h) o.0.who o.0.key) g.version o.0.who)) other
-          ∙ ap (λ win. under win g.version o.0.who) window
-          ∙ ap (λ b. cond b (Some (window_end (window_of y g.key) o.0.who)) None) p3.1
-          ∙ ap (λ a. Some (window_end (window_of y g.key) a)) o.2 ∙ ap (λ z. Some z) (sym e) in
+          let limits : left_by g.who g.version (held_of h o.0) ≡ under (window_in (yeas h) o.0.who o.0.key) g.version o.0.who = ap (λ b. cond b None (under (window_in (yeas h) o.0.who o.0.key) g.version o.0.who)) other in
+          let at_window : under (window_in (yeas h) o.0.who o.0.key) g.version o.0.who ≡ under (Some (window_of y g.key)) g.version o.0.who = ap (λ win. under win g.version o.0.who) window in
+          let at_end : under (Some (window_of y g.key)) g.version o.0.who ≡ Some (window_end (window_of y g.key) o.0.who) = ap (λ b. cond b (Some (window_end (window_of y g.key) o.0.who)) None) p3.1 in
+          let end_is : Some (window_end (window_of y g.key) o.0.who) ≡ Some v = ap (λ a. Some (window_end (window_of y g.key) a)) o.2 ∙ ap (λ z. Some z) (sym e) in
+          let left : left_by g.who g.version (held_of h o.0) ≡ Some v = limits ∙ (at_window ∙ (at_end ∙ end_is)) in
           let r = first_leaves upper_before uppers_ordered (left_by g.who g.version) (held_of h g).upper (s.lines g.key).held (held_of h o.0) v there left in
           (r.0, g.key, noted g i w, upper_is g i w p1.0 ∙ r.1, r.2)
         where
