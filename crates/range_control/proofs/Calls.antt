@@ -1,0 +1,152 @@
+-- The calls of a table that stands for a history.
+use Rattle.std.proofs.Common.{◌≡◌, ℕ, suc, ◌+◌, ◌^◌, ◌<◌, ◌≤◌, List, [], ◌∷◌, Bool, true, false, not, ◌&&◌, cond, length, refl, ap, ap₂, ◌∙◌, inl, ⊎_elim, arith, Option, Some, None, option_map}
+use Rattle.deneva_base.specs.declared.keys.Key.{Key}
+use Rattle.deneva_base.specs.declared.keys.Mode.{Mode}
+use Rattle.deneva_base.specs.declared.numbers.Attempt.{Attempt}
+use Rattle.deneva_base.specs.declared.numbers.Number.{Number}
+use Rattle.deneva_base.specs.declared.rows.Keyed.{Keyed}
+use Rattle.deneva_base.specs.declared.causes.Bound.{Bound}
+use Rattle.deneva_base.specs.declared.answers.Answer.TheVariants.{Granted}
+use Rattle.deneva_base.specs.declared.answers.Vote.{Vote}
+use Rattle.deneva_base.specs.Lists.{IsIn, least_by}
+use Rattle.deneva_base.specs.Rows.{Row, Rows}
+use Rattle.deneva_base.specs.Conditions.{MayAsk, MayPrepare, MayCommit, MayAbort}
+use Rattle.deneva_base.specs.History.{Ask, Prepare, Commit, Abort, History, Asked, Grant, Yea, Decided, grants, waits, yeas, decided, IsUnended}
+use Rattle.deneva_base.specs.Latest.{latest, has_ended, seen}
+use Rattle.deneva_base.specs.Leaving.{rows_left}
+use Rattle.deneva_base.specs.Ranged.{accessed, past_committed, past_prepared, grant_latest, low_of, low, under_prepared, high, lo_key, hi_by, window_vote}
+use Rattle.deneva_base.specs.Maat.{maat, maat_vote}
+use Rattle.deneva_base.specs.Wakes.{KeepsWakes}
+use Rattle.deneva_base.proofs.Belows.{greatest_le}
+use Rattle.deneva_base.proofs.Sound.{Sound, sound}
+use Rattle.deneva_base.proofs.Known.{Known, known}
+use Rattle.deneva_base.proofs.Traced.{Traced, traced}
+use Rattle.deneva_base.proofs.Rangeds.{windows_law, waits_law, wakes_law}
+use Rattle.deneva_base.proofs.Maats.{ranging}
+use Rattle.deneva_base.proofs.Boundeds.{low_le}
+use Rattle.row_store.specs.declared.versions.Version.{Version as StoredVersion}
+use Rattle.row_store.specs.Stores.{version_at, has, row_in}
+use Rattle.control_core.proofs.Lasts.{last_rows}
+use Rattle.range_control.specs.declared.table.Table.{Table}
+use Rattle.range_control.specs.Accesses.{past_over}
+use Rattle.range_control.specs.Tables.{accesses_at, low_at}
+use Rattle.range_control.specs.Holdings.{holding_at}
+use Rattle.range_control.specs.Changes.{Adds, Votes, Ends, read_in, past_version, bound_in, new_access, lower_for, upper_for}
+use Rattle.range_control.specs.Standing.{state_of, Tracks, Stands, version_of}
+use Rattle.range_control.proofs.Histories.{Apart, InRange, in_range, numbers_small, votes_apart, voted, latest_top, least_most}
+use Rattle.range_control.proofs.Holders.{past_is}
+use Rattle.range_control.proofs.Lowering.{low_below, lower_is}
+use Rattle.range_control.proofs.Uppering.{upper_same}
+use Rattle.range_control.proofs.Asking.{ask_tracks}
+use Rattle.range_control.proofs.Preparing.{vote_tracks}
+use Rattle.range_control.proofs.Ending.{promised_less, aborted_tracks, committed_tracks}
+use Rattle.range_control.proofs.Answering.{version_is, is_present, read_is, past_is_of, bound_same}
+
+cond_le : (m : ℕ) (b : Bool) (x : ℕ) → x ≤ m → cond b x 0 ≤ m
+cond_le m true x l = l
+cond_le m false x l = omega arith
+
+module _ (span : ℕ) (t : Table) (loaded : Rows) (h : History) (stands : Stands span t loaded h) where
+  wakes : KeepsWakes h
+  wakes = wakes_law loaded (maat span loaded) (ranging span loaded) h stands.obeys
+
+  pub sounds : Sound loaded h
+  sounds = sound loaded (maat span loaded) h stands.obeys
+
+  pub knows : Known loaded h
+  knows = known loaded (maat span loaded) h stands.obeys
+
+  pub traces : Traced h
+  traces = traced loaded (maat span loaded) h stands.obeys wakes
+
+  votes : Apart (yeas h)
+  votes = votes_apart loaded (maat span loaded) h stands.obeys (λ k o. sound loaded (maat span loaded) k o)
+
+  ranges : (y : Yea) → IsIn y (yeas h) → InRange y
+  ranges y i = in_range span loaded h y stands.obeys i
+
+  numbers : (d : Decided) → IsIn d (decided h) → d.number.n < 2 ^ 48
+  numbers d i = numbers_small loaded (maat span loaded) h d stands.obeys i
+
+  -- nothing waits
+  pub nothing_waits : waits h ≡ []
+  nothing_waits = nil (waits h) (waits_law loaded (maat span loaded) (ranging span loaded) h stands.obeys)
+    where
+      nil : (ws : List Asked) → ((a : Asked) → IsIn a ws → ⊥) → ws ≡ []
+      nil [] f = refl
+      nil (w ∷ ws) f = absurd (f w (inl refl))
+
+  -- all numbers are small
+  pub past_small : (key : Key) → past_over (accesses_at t.lines key) < 2 ^ 64
+  past_small key =
+      let a = greatest_le (past_committed h key) (2 ^ 63 + 1) (decided h) (λ d i. cond_le (2 ^ 63 + 1) (accessed h d.who key) (suc d.number.n) (omega (arith, numbers d i))) in
+      let b = greatest_le (past_prepared h key) (2 ^ 63 + 1) (yeas h) (λ y i. cond_le (2 ^ 63 + 1) (not (has_ended h y.who) && accessed h y.who key) (suc y.hi) (omega (arith, (ranges y i).high))) in
+      omega (arith, past_is loaded h (state_of t) stands.tracks sounds.one key, a, b)
+
+  pub version_small : (key : Key) (row : Row) → loaded key ≡ Some row → past_version (version_at t.store key) < 2 ^ 64
+  version_small key row e =
+      let v = version_is loaded h knows sounds traces (state_of t) stands.tracks (maat span loaded) key row stands.obeys e in
+      let n : (latest loaded h key).number.n < 2 ^ 48 = ⊎_elim (λ l. omega (arith, ap (λ z. z.n) l.0)) (λ d. omega (arith, ap (λ z. z.n) d.2, numbers d.0 d.1)) (sounds.found key row e) in
+      omega (arith, past_is_of (version_at t.store key) (latest loaded h key) v, n)
+
+  pub low_small : (who : Attempt) (ws : List Keyed) (key : Key) → IsUnended h who → low_at t.lines who ws key < 2 ^ 64
+  low_small who ws key u =
+      let none : Bound = record { n = 0; key = key } in
+      let a = low_below loaded h (state_of t) stands.tracks sounds.one traces.one who u ws key in
+      let b = low_le loaded (maat span loaded) (ranging span loaded) (2 ^ 63) h stands.obeys (record { numbers = λ d i. omega (arith, numbers d i); uppers = λ y i. (ranges y i).high }) who none ws (omega arith) in
+      omega (arith, a, b)
+
+  -- what is granted
+  pub grant_is : (who : Attempt) (stamp : ℕ) (key : Key) (mode : Mode) → MayAsk loaded h who stamp key → Granted (read_in mode (version_at t.store key)).0 (read_in mode (version_at t.store key)).1 (bound_in mode (version_at t.store key) (past_over (accesses_at t.lines key))) ≡ grant_latest loaded h key mode
+  grant_is who stamp key mode may =
+      let v = version_is loaded h knows sounds traces (state_of t) stands.tracks (maat span loaded) key may.here.0 stands.obeys may.here.1 in
+      let r = read_is mode (version_at t.store key) (latest loaded h key) v in
+      let b = bound_same loaded h key mode (version_at t.store key) (past_over (accesses_at t.lines key)) v (past_is loaded h (state_of t) stands.tracks sounds.one key) in
+      ap₂ (λ row number. Granted row number (bound_in mode (version_at t.store key) (past_over (accesses_at t.lines key)))) r.0 r.1
+      ∙ ap (λ n. Granted (seen mode (latest loaded h key)).row (seen mode (latest loaded h key)).number n) b
+
+  pub grant_tracks : (who : Attempt) (stamp : ℕ) (key : Key) (mode : Mode) (bound : ℕ) (new : Table) → MayAsk loaded h who stamp key → Adds key (new_access who mode (read_in mode (version_at t.store key)).1) t new → Tracks loaded (state_of new) (Ask who stamp key mode (Granted (read_in mode (version_at t.store key)).0 (read_in mode (version_at t.store key)).1 bound) ∷ h)
+  grant_tracks who stamp key mode bound new may c =
+      let v = version_is loaded h knows sounds traces (state_of t) stands.tracks (maat span loaded) key may.here.0 stands.obeys may.here.1 in
+      ask_tracks loaded h sounds who stamp key mode may (λ d i w. latest_top loaded (maat span loaded) h d key stands.obeys i w)
+      (read_in mode (version_at t.store key)).0 (read_in mode (version_at t.store key)).1 bound (read_is mode (version_at t.store key) (latest loaded h key) v).1 t new stands.tracks c
+
+  module _ (who : Attempt) (bound : Bound) (writes appends : List Keyed) (may : MayPrepare h who bound writes appends) where
+    upper_end_is : upper_for t who ≡ record { n = high h who; by = hi_by h who (high h who) }
+    upper_end_is = upper_same loaded h (state_of t) stands.tracks sounds traces.one who may.unended ranges numbers (λ d i. voted loaded (maat span loaded) h d stands.obeys i) may.something
+
+    pub upper_small : (upper_for t who).n ≤ 2 ^ 63
+    upper_small = omega (arith, ap (λ u. u.n) upper_end_is, least_most (λ (g : Grant). least_by (under_prepared h who g) (yeas h)) (grants h))
+
+    -- the vote
+    pub vote_is : window_vote span (lower_for t who bound writes).key (upper_for t who).by (lower_for t who bound writes).n (upper_for t who).n ≡ maat_vote span h who bound writes
+    vote_is =
+        ap (λ l. window_vote span l.key (upper_for t who).by l.n (upper_for t who).n) (lower_is loaded h (state_of t) stands.tracks sounds.one traces.one who may.unended writes bound may.something)
+        ∙ ap (λ u. window_vote span (lo_key h bound (low_of h who writes) (low h who bound writes)) u.by (low h who bound writes) u.n) upper_end_is
+
+    pub prepare_tracks : (vote : Vote) (new : Table) → Votes vote who writes appends t new → Tracks loaded (state_of new) (Prepare who bound writes appends vote ∷ h)
+    prepare_tracks vote new c = vote_tracks loaded h sounds who bound writes appends may vote t new stands.tracks c
+
+  -- what the end of an attempt asks of the table
+  pub present : (who : Attempt) → IsUnended h who → (w : Keyed) → IsIn w (holding_at t.parts who).writes → has t.store w.key ≡ true
+  present who u w i = is_present loaded h knows sounds traces (state_of t) stands.tracks (maat span loaded) who w stands.obeys u i
+
+  pub promised : (who : Attempt) → IsUnended h who → length (holding_at t.parts who).appends ≤ t.promised
+  promised who u =
+      let mine = ap (λ (l : List Keyed). length l) (stands.tracks.rows who u).1 in
+      let less = promised_less h (Abort who [] ∷ h) who (yeas h) refl u votes in
+      omega (arith, mine, less, stands.tracks.promised)
+
+  pub commit_tracks : (who : Attempt) (number : Number) (new : Table) → MayCommit h who number → Ends who (Some number) t new → Tracks loaded (state_of new) (Commit who number [] ∷ h)
+  commit_tracks who number new may c = committed_tracks loaded h sounds votes who number may t new stands.tracks c
+
+  pub abort_tracks : (who : Attempt) (new : Table) → MayAbort h who → Ends who None t new → Tracks loaded (state_of new) (Abort who [] ∷ h)
+  abort_tracks who new may c = aborted_tracks loaded h sounds votes who t new may stands.tracks c
+
+  -- the rows that are left
+  pub rows_are : (key : Key) → row_in t.store key ≡ rows_left loaded h key
+  rows_are key = rows (version_at t.store key) ∙ ap (option_map (λ v. v.row)) (stands.tracks.versions key) ∙ last_rows loaded (maat span loaded) (λ k o. windows_law loaded (maat span loaded) (ranging span loaded) k o) h key stands.obeys
+    where
+      rows : (v : Option StoredVersion) → option_map (λ x. x.row) v ≡ option_map (λ x. x.row) (option_map version_of v)
+      rows None = refl
+      rows (Some v) = refl

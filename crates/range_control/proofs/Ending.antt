@@ -1,0 +1,276 @@
+-- The table tracks the history with the end of an attempt.
+use Rattle.std.proofs.Common.{◌≡◌, ◌≢◌, suc, ◌+◌, ◌-◌, max, List, [], ◌∷◌, map, filter, reverse, Bool, true, false, not, ◌&&◌, ◌||◌, cond, length, refl, sym, ap, ◌∙◌, subst, inl, inr, ⊎_elim, arith, Option, Some, None, option_map, true≢false}
+use Rattle.std.specs.List.{list_any}
+use Rattle.deneva_base.specs.declared.keys.Key.{Key}
+use Rattle.deneva_base.specs.declared.numbers.Attempt.{Attempt}
+use Rattle.deneva_base.specs.declared.numbers.Number.{Number}
+use Rattle.deneva_base.specs.declared.rows.Keyed.{Keyed}
+use Rattle.deneva_base.specs.Lists.{IsIn, greatest_by}
+use Rattle.deneva_base.specs.Rows.{Rows}
+use Rattle.deneva_base.specs.Modes.{reads}
+use Rattle.deneva_base.specs.Keys.{key_eq, attempt_eq, number_lt}
+use Rattle.deneva_base.specs.Conditions.{MayCommit, MayAbort}
+use Rattle.deneva_base.specs.History.{Commit, Abort, History, Grant, Yea, Decided, grants, yeas, decided, ended, IsUnended}
+use Rattle.deneva_base.specs.Latest.{row_for, writes_in, has_ended}
+use Rattle.deneva_base.specs.Leaving.{later, left_in as rows_in_vote}
+use Rattle.deneva_base.specs.Ranged.{lists, wrote, accessed, past_committed}
+use Rattle.deneva_base.proofs.Words.{filter_in, any_at, any_found, and_true, and_parts, key_decides, attempt_decides, attempt_tells}
+use Rattle.deneva_base.proofs.Sound.{Sound}
+use Rattle.deneva_base.proofs.Rangeds.{accessed_at}
+use Rattle.row_store.specs.declared.versions.Version.{Version as StoredVersion}
+use Rattle.row_store.specs.Stores.{newest}
+use Rattle.control_core.specs.Leaving.{last}
+use Rattle.control_core.proofs.Lasts.{appends_in, left_is, row_for_both, later_twice}
+use Rattle.range_control.specs.declared.ends.Upper.{Upper}
+use Rattle.range_control.specs.declared.accesses.Held.{Held}
+use Rattle.range_control.specs.declared.table.Table.{Table}
+use Rattle.range_control.specs.Ends.{upper_before, first_of, first_by}
+use Rattle.range_control.specs.Accesses.{Accesses, own_in, is_writing, overtaken, passed, ended_in}
+use Rattle.range_control.specs.Holdings.{Holding, nothing}
+use Rattle.range_control.specs.Changes.{Ends, offered}
+use Rattle.range_control.specs.Standing.{State, state_of, is_held, held_here, window_in, under_decided, held_of, Tracks, version_of, first_voter, promised_in}
+use Rattle.range_control.proofs.Firsts.{first_more}
+use Rattle.range_control.proofs.Lists.{map_same, map_both, filter_map, filter_both}
+use Rattle.range_control.proofs.Histories.{Apart, wrote_found}
+use Rattle.range_control.proofs.Holders.{reverse-cons, own_cases, own, real, window_of, window_some}
+use Rattle.range_control.proofs.Changing.{not_own, changed_is, ended_none, ended_twice}
+use Rattle.range_control.proofs.Preparing.{unended_test}
+
+-- rows that come under a number
+pub offered_later : (n : Number) (rows : List Keyed) (key : Key) (v : Option StoredVersion) → option_map version_of (offered n rows key v) ≡ later (option_map version_of v) n (row_for key rows)
+offered_later n [] key v = refl
+offered_later n (r ∷ rows) key v = go (key_eq r.key key) (λ u. offered_later n rows key u)
+  where
+    one : (v : Option StoredVersion) → option_map version_of (newest v (record { number = n; row = r.row })) ≡ later (option_map version_of v) n (Some r.row)
+    one None = refl
+    one (Some u) = pick (number_lt u.number n)
+      where
+        pick : (b : Bool) → option_map version_of (Some (cond b (record { number = n; row = r.row }) u)) ≡ cond b (Some (record { number = n; row = r.row })) (Some (version_of u))
+        pick true = refl
+        pick false = refl
+
+    go : (b : Bool) → ((u : Option StoredVersion) → option_map version_of (offered n rows key u) ≡ later (option_map version_of u) n (row_for key rows)) → option_map version_of (offered n rows key (cond b (newest v (record { number = n; row = r.row })) v)) ≡ later (option_map version_of v) n (cond b (Some r.row) (row_for key rows))
+    go true rest = rest (newest v (record { number = n; row = r.row })) ∙ ap (λ x. later x n (row_for key rows)) (one v) ∙ later_twice (option_map version_of v) n (Some r.row) (row_for key rows)
+    go false rest = rest v
+
+pub committed_version : (n : Number) (ys : List Yea) (who : Attempt) (key : Key) (v : Option StoredVersion) → option_map version_of (offered n (appends_in ys who) key (offered n (writes_in ys who) key v)) ≡ later (option_map version_of v) n (row_for key (rows_in_vote ys who))
+committed_version n ys who key v =
+    offered_later n (appends_in ys who) key (offered n (writes_in ys who) key v)
+    ∙ ap (λ x. later x n (row_for key (appends_in ys who))) (offered_later n (writes_in ys who) key v)
+    ∙ later_twice (option_map version_of v) n (row_for key (writes_in ys who)) (row_for key (appends_in ys who))
+    ∙ ap (later (option_map version_of v) n) (sym (ap (row_for key) (left_is ys who) ∙ row_for_both key (writes_in ys who) (appends_in ys who)))
+
+-- an end leaves out what the attempt was promised
+promised_none : (h h' : History) (who : Attempt) (ys : List Yea) → ended h' ≡ who ∷ ended h → ((z : Yea) → IsIn z ys → z.who ≢ who) → (promised_in h' ys ≡ promised_in h ys) × (appends_in ys who ≡ [])
+promised_none h h' who [] e n = (refl, refl)
+promised_none h h' who (y ∷ ys) e n =
+    let rest = promised_none h h' who ys e (λ z i. n z (inr i)) in
+    let f = ⊎_elim (λ t. absurd (n y (inl refl) t.1)) (λ f. f.0) (attempt_tells y.who who) in
+    let same : has_ended h' y.who ≡ has_ended h y.who = ap (λ l. list_any (attempt_eq y.who) l) e ∙ rw f refl in
+    (rw (same, rest.0) refl, rw f rest.1)
+
+pub promised_less : (h h' : History) (who : Attempt) (ys : List Yea) → ended h' ≡ who ∷ ended h → IsUnended h who → Apart ys → promised_in h' ys + length (appends_in ys who) ≡ promised_in h ys
+promised_less h h' who [] e u a = refl
+promised_less h h' who (y ∷ ys) e u a = ⊎_elim
+    (λ t.
+    let none = promised_none h h' who ys e (λ z i s. a.0 z i (s ∙ sym t.1)) in
+    let now : has_ended h' y.who ≡ true = ap (λ l. list_any (attempt_eq y.who) l) e ∙ rw t.0 refl in
+    let before : has_ended h y.who ≡ false = ap (has_ended h) t.1 ∙ unended_test h who u in
+    rw (now, before, t.0, none.0) (omega arith))
+    (λ f.
+    let rest = promised_less h h' who ys e u a.1 in
+    let same : has_ended h' y.who ≡ has_ended h y.who = ap (λ l. list_any (attempt_eq y.who) l) e ∙ rw f.0 refl in
+    rw (same, f.0) (omega (arith, rest)))
+    (attempt_tells y.who who)
+
+-- the end of an attempt
+pub record Closes (h h' : History) (who : Attempt) : Type 0 where
+  pub grants_same : grants h' ≡ grants h
+  pub ended_more : ended h' ≡ who ∷ ended h
+  pub yeas_same : yeas h' ≡ yeas h
+  pub unended : IsUnended h who
+
+module _ (loaded : Rows) (h h' : History) (who : Attempt) (number : Option Number) (apart : Apart (yeas h)) (c : Closes h h' who) where
+  still : (x : Attempt) → IsUnended h' x → (x ≢ who) × IsUnended h x
+  still x u = ((λ e. u (subst (λ l. IsIn x l) (sym c.ended_more) (inl e))), (λ i. u (subst (λ l. IsIn x l) (sym c.ended_more) (inr i))))
+
+  -- each access of the attempt is at one of its keys
+  pub closed_lines : (old new : Table) → Tracks loaded (state_of old) h → Ends who number old new → (k : Key) → (state_of new).lines k ≡ ended_in who number ((state_of old).lines k)
+  closed_lines old new t e k =
+      let s : State = state_of old in
+      e.lines k ∙ changed_is (λ q. ended_in who number) (s.holding who).keys k (s.lines k) (ended_twice who number (s.lines k))
+      (⊎_elim
+      (λ x.
+      let r = real loaded h s t k x.0 x.1 in
+      let same : r.0.who ≡ who = sym (ap (λ (z : Held). z.who) r.4) ∙ x.2 in
+      inl (subst (λ q. IsIn q (s.holding who).keys) r.3 (subst (λ w. IsIn r.0.key (s.holding w).keys) same (t.noted r.0 r.1 r.2))))
+      (λ n. inr (ended_none who number (s.lines k) n.0))
+      (own_cases who (s.lines k).held))
+
+  pub closed_tracks : (old new : Table) → Tracks loaded (state_of old) h → Ends who number old new
+      → ((k : Key) → ((state_of new).lines k).held ≡ map (held_of h') (held_here h' k)) → ((k : Key) → ((state_of new).lines k).past ≡ greatest_by (past_committed h' k) (decided h'))
+      → ((k : Key) → option_map version_of ((state_of new).versions k) ≡ last loaded h' k)
+      → Tracks loaded (state_of new) h'
+  closed_tracks old new t e held past versions =
+      let s : State = state_of old in
+      let s' : State = state_of new in
+      let others : (w : Attempt) → w ≢ who → s'.holding w ≡ s.holding w = λ w n. ⊎_elim (λ x. absurd (n (sym x.1))) (λ f. e.parts w ∙ ap (λ b. cond b nothing (s.holding w)) f.0) (attempt_tells who w) in
+      record {
+        held = held;
+        past = past;
+        noted = λ g i u. let v = still g.who u in subst (λ (l : Holding). IsIn g.key l.keys) (sym (others g.who v.0)) (t.noted g (subst (λ l. IsIn g l) c.grants_same i) v.1);
+        rows = λ w u. let v = still w u in let o = t.rows w v.1 in (ap (λ (l : Holding). l.writes) (others w v.0) ∙ o.0 ∙ ap (λ ys. writes_in ys w) (sym c.yeas_same), ap (λ (l : Holding). l.appends) (others w v.0) ∙ o.1 ∙ ap (λ ys. appends_in ys w) (sym c.yeas_same));
+        tables = t.tables;
+        versions = versions;
+        promised =
+            let mine = ap (λ (l : List Keyed). length l) (t.rows who c.unended).1 in
+            let less = promised_less h h' who (yeas h) c.ended_more c.unended apart in
+            let to : promised_in h' (yeas h') ≡ promised_in h' (yeas h) = ap (promised_in h') c.yeas_same in
+            omega (arith, e.promised, t.promised, mine, less, to);
+        room = omega (arith, t.room, e.promised, e.room);
+        voted = e.voted ∙ t.voted ∙ ap first_voter (sym c.yeas_same);
+      }
+
+-- who is held still
+held_test : (a b c : Bool) → (a && not (b || c)) ≡ ((a && not c) && not b)
+held_test true true true = refl
+held_test true true false = refl
+held_test true false true = refl
+held_test true false false = refl
+held_test false b c = refl
+
+abbrev other : Attempt → Grant → Bool
+other who g = not (attempt_eq g.who who)
+
+and_false : (b : Bool) → (b && false) ≡ false
+and_false true = refl
+and_false false = refl
+
+module _ (loaded : Rows) (h : History) (sound : Sound loaded h) (apart : Apart (yeas h)) (who : Attempt) where
+  pub aborted_tracks : (old new : Table) → MayAbort h who → Tracks loaded (state_of old) h → Ends who None old new → Tracks loaded (state_of new) (Abort who [] ∷ h)
+  aborted_tracks old new may t e =
+      let s : State = state_of old in
+      let s' : State = state_of new in
+      let h' : History = Abort who [] ∷ h in
+      let c : Closes h h' who = record { grants_same = refl; ended_more = refl; yeas_same = refl; unended = may.unended } in
+      let lines = closed_lines loaded h h' who None apart c old new t e in
+      closed_tracks loaded h h' who None apart c old new t e
+      (λ k.
+      ap (λ (l : Accesses). l.held) (lines k) ∙ ap (filter (not_own who)) (t.held k)
+      ∙ filter_map (held_of h) (not_own who) (other who) (held_here h k) (λ g. refl)
+      ∙ ap (map (held_of h)) (filter_both (is_held h k) (other who) (is_held h' k) (reverse (grants h)) (λ g. held_test (key_eq g.key k) (attempt_eq g.who who) (has_ended h g.who))))
+      (λ k. ap (λ (l : Accesses). l.past) (lines k) ∙ t.past k)
+      (λ k. ap (option_map version_of) (e.versions k) ∙ t.versions k)
+
+  module _ (number : Number) (may : MayCommit h who number) where
+    abbrev after : History
+    after = Commit who number [] ∷ h
+
+    abbrev mine : Decided
+    mine = record { who = who; number = number }
+
+    abbrev under_mine : Upper
+    under_mine = record { n = number.n - 1; by = who }
+
+    -- what the commit leaves of an access
+    upper_after : (g : Grant) → (held_of after g).upper ≡ first_of upper_before (held_of h g).upper (under_decided h g mine)
+    upper_after g = ap (first_by upper_before (under_decided h g) None) (reverse-cons mine (decided h)) ∙ first_more upper_before (under_decided h g) None (reverse (decided h)) mine
+
+    passed_by : (g : Grant) → wrote h who g.key ≡ true → overtaken who number (held_of h g) ≡ held_of after g
+    passed_by g w =
+        let upper = pick (reads g.mode && number_lt g.version number) ∙ ap (λ b. first_of upper_before (held_of h g).upper (cond (reads g.mode && (b && number_lt g.version number)) (Some under_mine) None)) (sym w) ∙ sym (upper_after g) in
+        λ i. record { who = g.who; mode = g.mode; version = g.version; upper = upper i; window = window_in (yeas h) g.who g.key }
+      where
+        pick : (b : Bool) → cond b (first_of upper_before (held_of h g).upper (Some under_mine)) (held_of h g).upper ≡ first_of upper_before (held_of h g).upper (cond b (Some under_mine) None)
+        pick true = refl
+        pick false = refl
+
+    not_passed : (g : Grant) → wrote h who g.key ≡ false → held_of h g ≡ held_of after g
+    not_passed g w =
+        let none : under_decided h g mine ≡ None = ap (λ b. cond (reads g.mode && (b && number_lt g.version number)) (Some under_mine) None) w ∙ ap (λ b. cond b (Some under_mine) None) (and_false (reads g.mode)) in
+        let upper = sym (upper_after g ∙ ap (first_of upper_before (held_of h g).upper) none) in
+        λ i. record { who = g.who; mode = g.mode; version = g.version; upper = upper i; window = window_in (yeas h) g.who g.key }
+
+    at : (k : Key) (g : Grant) → IsIn g (held_here h k) → g.key ≡ k
+    at k g i = let f = filter_in (is_held h k) g (reverse (grants h)) i in (key_decides g.key k).0 (and_parts (key_eq g.key k) (not (has_ended h g.who)) f.1).0
+
+    -- its vote tells whether it wrote a key
+    writes_same : (k : Key) → is_writing (window_in (yeas h) who k) ≡ wrote h who k
+    writes_same k =
+        let y = may.inside in
+        ap is_writing (subst (λ a. window_in (yeas h) a k ≡ Some (window_of y.0 k)) y.2 (window_some (yeas h) y.0 k sound.one y.1)) ∙ go (wrote h who k) refl
+      where
+        go : (b : Bool) → wrote h who k ≡ b → lists may.inside.0.writes k ≡ b
+        go true e = let f = wrote_found h who k e in subst (λ (y : Yea). lists y.writes k ≡ true) (sound.one f.0 may.inside.0 f.1 may.inside.1 (f.2 ∙ sym may.inside.2)) f.3
+        go false e = no (lists may.inside.0.writes k) refl
+          where
+            no : (b : Bool) → lists may.inside.0.writes k ≡ b → b ≡ false
+            no false q = refl
+            no true q = absurd (true≢false (sym (any_at (λ (y : Yea). attempt_eq y.who who && lists y.writes k) may.inside.0 (yeas h) may.inside.1 (and_true (attempt_eq may.inside.0.who who) (lists may.inside.0.writes k) ((attempt_decides may.inside.0.who who).1 may.inside.2) q)) ∙ e))
+
+    module _ (s : State) (t : Tracks loaded s h) where
+      pass_all : (k : Key) (b : Bool) → wrote h who k ≡ b → cond b (map (overtaken who number) (s.lines k).held) (s.lines k).held ≡ map (held_of after) (held_here h k)
+      pass_all k true w = ap (map (overtaken who number)) (t.held k) ∙ map_both (overtaken who number) (held_of h) (held_of after) (held_here h k) (λ g i. passed_by g (ap (wrote h who) (at k g i) ∙ w))
+      pass_all k false w = t.held k ∙ map_same (held_of h) (held_of after) (held_here h k) (λ g i. not_passed g (ap (wrote h who) (at k g i) ∙ w))
+
+      -- a key that it wrote is one that it has an access to
+      unwritten : (k : Key) → ((g : Grant) → IsIn g (grants h) → g.who ≡ who → g.key ≢ k) → wrote h who k ≡ false
+      unwritten k none = go (wrote h who k) refl
+        where
+          go : (b : Bool) → wrote h who k ≡ b → b ≡ false
+          go false e = refl
+          go true e =
+              let y = wrote_found h who k e in
+              let w = any_found (λ (x : Keyed). key_eq x.key k) y.0.writes y.3 in
+              let g = sound.holds y.0 w.0 y.1 w.1 in
+              absurd (none g.0 g.1 (g.2 ∙ y.2) (g.3 ∙ (key_decides w.0.key k).0 w.2))
+
+      passes : (k : Key) → (passed who number (own_in who (s.lines k).held) (s.lines k)).held ≡ map (held_of after) (held_here h k)
+      passes k = ⊎_elim
+          (λ o.
+          let window : (held_of h o.0).window ≡ window_in (yeas h) who k = ap (λ a. window_in (yeas h) a o.0.key) o.2 ∙ ap (window_in (yeas h) who) o.3 in
+          ap (λ x. (passed who number x (s.lines k)).held) o.4
+          ∙ ap (λ b. cond b (map (overtaken who number) (s.lines k).held) (s.lines k).held) (ap is_writing window ∙ writes_same k)
+          ∙ pass_all k (wrote h who k) refl)
+          (λ n. ap (λ x. (passed who number x (s.lines k)).held) n.0 ∙ pass_all k false (unwritten k n.1))
+          (own loaded h s t who may.unended k)
+
+      past_after : (k : Key) → (passed who number (own_in who (s.lines k).held) (s.lines k)).past ≡ max (cond (accessed h who k) (suc number.n) 0) (greatest_by (past_committed h k) (decided h))
+      past_after k = ⊎_elim
+          (λ o.
+          let e = ap (λ x. (passed who number x (s.lines k)).past) o.4 in
+          let a = ap (λ b. cond b (suc number.n) 0) (accessed_at h who k o.0 o.1 o.2 o.3) in
+          let p = t.past k in
+          omega (arith, e, a, p))
+          (λ n.
+          let e = ap (λ x. (passed who number x (s.lines k)).past) n.0 in
+          let a = ap (λ b. cond b (suc number.n) 0) (unaccessed k n.1) in
+          let p = t.past k in
+          omega (arith, e, a, p))
+          (own loaded h s t who may.unended k)
+        where
+          unaccessed : (k : Key) → ((g : Grant) → IsIn g (grants h) → g.who ≡ who → g.key ≢ k) → accessed h who k ≡ false
+          unaccessed k none = go (accessed h who k) refl
+            where
+              go : (b : Bool) → accessed h who k ≡ b → b ≡ false
+              go false e = refl
+              go true e =
+                  let f = any_found (λ (g : Grant). attempt_eq g.who who && key_eq g.key k) (grants h) e in
+                  let p = and_parts (attempt_eq f.0.who who) (key_eq f.0.key k) f.2 in
+                  absurd (none f.0 f.1 ((attempt_decides f.0.who who).0 p.0) ((key_decides f.0.key k).0 p.1))
+
+    pub committed_tracks : (old new : Table) → Tracks loaded (state_of old) h → Ends who (Some number) old new → Tracks loaded (state_of new) after
+    committed_tracks old new t e =
+        let s : State = state_of old in
+        let s' : State = state_of new in
+        let c : Closes h after who = record { grants_same = refl; ended_more = refl; yeas_same = refl; unended = may.unended } in
+        let lines = closed_lines loaded h after who (Some number) apart c old new t e in
+        let rows = t.rows who may.unended in
+        closed_tracks loaded h after who (Some number) apart c old new t e
+        (λ k.
+        ap (λ (l : Accesses). l.held) (lines k) ∙ ap (filter (not_own who)) (passes s t k)
+        ∙ filter_map (held_of after) (not_own who) (other who) (held_here h k) (λ g. refl)
+        ∙ ap (map (held_of after)) (filter_both (is_held h k) (other who) (is_held after k) (reverse (grants h)) (λ g. held_test (key_eq g.key k) (attempt_eq g.who who) (has_ended h g.who))))
+        (λ k. ap (λ (l : Accesses). l.past) (lines k) ∙ past_after s t k)
+        (λ k. ap (option_map version_of) (e.versions k ∙ ap (λ ws. offered number (s.holding who).appends k (offered number ws k (s.versions k))) rows.0 ∙ ap (λ as'. offered number as' k (offered number (writes_in (yeas h) who) k (s.versions k))) rows.1)
+        ∙ committed_version number (yeas h) who k (s.versions k) ∙ ap (λ v. later v number (row_for k (rows_in_vote (yeas h) who))) (t.versions k))

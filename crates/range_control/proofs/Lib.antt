@@ -1,0 +1,16 @@
+pub mod Places
+pub mod Steps
+pub mod Lists
+pub mod Firsts
+pub mod Histories
+pub mod Holders
+pub mod Leasts
+pub mod Asking
+pub mod Changing
+pub mod Preparing
+pub mod Ending
+pub mod Answering
+pub mod Outcomes
+pub mod Calls
+pub mod Lowering
+pub mod Uppering

@@ -1,0 +1,84 @@
+//! MAAT as a control.
+ghost use Rattle.std.specs.Prelude.{true, refl};
+ghost use Rattle.deneva_base.specs.Maat.{maat};
+ghost use Rattle.deneva_base.specs.declared.config.Protocol.TheVariants.{Maat};
+ghost use Rattle.deneva_base.proofs.Maats.{ranging};
+ghost use Rattle.deneva_base.proofs.MaatServed.{waits};
+ghost use Rattle.deneva_base.proofs.Rangeds.{windows_law};
+ghost use Rattle.range_control.specs.Standing.{Stands};
+
+use crate::table::Table;
+use control_core::{Chosen, Control, PrepareNoMemory};
+use deneva_base::{
+    Answer, Attempt, Bound, Key, Mode, NoMemory, Number, Protocol, RowList, Vote, Woken,
+};
+use row_store::Store;
+
+/// MAAT, with windows of at most `SPAN` numbers.
+#[derive(Drop)]
+pub struct Ranges<const SPAN: u64> {
+    table: Table,
+}
+
+impl<const SPAN: u64> Control for Ranges<SPAN> {
+    ghost KIND = { Maat };
+
+    ghost FIXED = { true };
+
+    ghost rule = { maat SPAN };
+
+    ghost stands = { λ s loaded h. Stands SPAN s.table loaded h };
+
+    const KIND: Protocol = Protocol::Maat;
+
+    const FIXED: bool = true;
+
+    fn begin(store: Store) -> Result<Ranges<SPAN>, NoMemory> {
+        let table = Table::new(store);
+        Ok(Ranges { table })
+    }
+
+    fn ask(&mut self, who: Attempt, _stamp: u64, key: Key, mode: Mode) -> Result<Answer, NoMemory> {
+        self.table.grant(who, key, mode)
+    }
+
+    fn prepare(
+        &mut self,
+        who: Attempt,
+        bound: Bound,
+        writes: RowList,
+        appends: RowList,
+    ) -> Result<Vote, PrepareNoMemory> {
+        self.table.prepare(SPAN, who, bound, writes, appends)
+    }
+
+    fn commit(&mut self, who: Attempt, number: Number, _woken: &mut Woken) -> Result<(), NoMemory> {
+        self.table.end(who, Some(number));
+        Ok(())
+    }
+
+    fn abort(&mut self, who: Attempt, _woken: &mut Woken) -> Result<(), NoMemory> {
+        self.table.end(who, None);
+        Ok(())
+    }
+
+    fn waiting(&self) -> usize {
+        0
+    }
+
+    fn rows(&self) -> Result<RowList, NoMemory> {
+        self.table.store.rows_in_order()
+    }
+
+    ghost obeys = { λ s loaded h stands. stands.obeys };
+
+    ghost windows = { λ s loaded h stands. windows_law loaded (maat SPAN loaded) (ranging SPAN loaded) h stands.obeys };
+
+    ghost waiters = { waits SPAN };
+}
+
+impl Chosen for Ranges<4096> {
+    ghost voting = { λ e. cc e };
+
+    ghost choice = { refl };
+}
