@@ -1,0 +1,10 @@
+-- One step of the loops of this crate.
+use Rattle.std.proofs.Common.{◌≡◌, ℕ, suc, ◌+◌, ◌<◌, List, ◌++◌, map, take, drop, length, get_or, slice_set, cond, refl, sym, ap, ◌∙◌, ⊎_elim, arith}
+use Rattle.std.proofs.Math.Seq.{drop-cons}
+use Rattle.std.proofs.lemmas.List.{get_or_default}
+use Rattle.std.proofs.lemmas.List.Edits.{map_over_more}
+
+-- one more element is changed in place
+pub set_step : {A : Type 0} (f : A → A) (xs ys : List A) (n : ℕ) (d r : A) → n < length xs → length ys ≡ length xs → ys ≡ map f (take n xs) ++ drop n xs → r ≡ f (get_or ys n d) → slice_set ys n r ≡ map f (take (n + 1) xs) ++ drop (n + 1) xs
+set_step f xs ys n d r less same is e =
+    ap (slice_set ys n) e ∙ map_over_more f xs ys n (get_or ys n d) less is (get_or_default ys n d (get_or ys n d) (omega (arith, less, same)))

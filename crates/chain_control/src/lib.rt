@@ -1,0 +1,14 @@
+//! Multiversion ordering by stamps: an access reads the version below its stamp, of the versions of a key that are kept.
+#![tactic(auto)]
+
+
+
+
+mod line;
+mod links;
+
+mod requests;
+
+
+
+
