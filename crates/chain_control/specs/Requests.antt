@@ -64,6 +64,11 @@ awaits number r = awaits_with number r.waits
 abbrev pub has_request : Attempt → List Request → Bool
 has_request who rs = list_any (λ r. attempt_eq r.who who) rs
 
+-- the stamp of the attempt's request, or 0
+abbrev pub stamp_among : Attempt → List Request → ℕ
+stamp_among who [] = 0
+stamp_among who (r ∷ rs) = cond (attempt_eq r.who who) r.stamp (stamp_among who rs)
+
 -- the request after those of the attempt are granted
 abbrev pub grants_to : Attempt → Request → Request
 grants_to who r = record { who = r.who; stamp = r.stamp; mode = r.mode; waits = cond (attempt_eq r.who who) None r.waits }

@@ -5,9 +5,12 @@
 
 
 mod line;
+mod lines;
 mod links;
 
+mod parts;
 mod requests;
+mod table;
 
 
 

@@ -1,7 +1,7 @@
 //! The unended accesses to one key.
 ghost use Rattle.std.specs.Prelude.{◌≡◌, ◌≤◌, ◌++◌, ◌∷◌, length, take, drop};
 ghost use Rattle.std.specs.List.{list_any};
-ghost use Rattle.chain_control.specs.Requests.{raised, stands_between, grants_to, overtaken, awaits, has_request, is_stopped, is_barred, goes_in, waiter_for, put_request};
+ghost use Rattle.chain_control.specs.Requests.{raised, stands_between, grants_to, overtaken, awaits, has_request, stamp_among, is_stopped, is_barred, goes_in, waiter_for, put_request};
 
 use deneva_base::{Attempt, Key, Mode, Number, TxnId};
 
@@ -95,6 +95,18 @@ pub(crate) fn has_request(requests: &[Request], who: Attempt) -> bool
     ensures { result ≡ has_request who requests.now }
 {
     requests.iter().any(|request| request.who == who)
+}
+
+/// The stamp of the attempt's request, or 0.
+pub(crate) fn stamp_among(requests: &[Request], who: Attempt) -> u64
+    ensures { result ≡ stamp_among who requests.now }
+{
+    for request in requests {
+        if request.who == who {
+            return request.stamp;
+        }
+    }
+    0
 }
 
 /// Whether one of them waits for the version of this number.

@@ -1,13 +1,13 @@
 //! A key is asked for.
 ghost use Rattle.std.specs.Prelude.{◌≡◌, None, option_map, IfOk, OnOk, OnErr};
-ghost use Rattle.chain_control.specs.Requests.{is_stopped};
+ghost use Rattle.chain_control.specs.Requests.{is_stopped, stamp_among};
 ghost use Rattle.chain_control.specs.Links.{link_below};
 ghost use Rattle.chain_control.specs.Chains.{chain_of, opened, refusal, with_request, with_grant, low_of};
 
 use super::Line;
 use crate::links::{Link, link_below, read};
-use crate::requests::{Request, is_stopped, place_of};
-use deneva_base::{Cause, Key, NoMemory, Number};
+use crate::requests::{Request, is_stopped, place_of, stamp_among};
+use deneva_base::{Attempt, Cause, Key, NoMemory, Number};
 use row_store::Version;
 use std::alloc::Global;
 
@@ -67,6 +67,13 @@ impl Line {
             None => 0,
         };
         is_stopped(&self.requests, low, stamp)
+    }
+
+    /// The stamp of the attempt's access, or 0.
+    pub fn stamp(&self, who: Attempt) -> u64
+        ensures { result ≡ stamp_among who (chain_of self.now).requests }
+    {
+        stamp_among(&self.requests, who)
     }
 
     /// Puts a request in its place by stamp, and makes room for a version of it.

@@ -4,6 +4,7 @@ ghost use Rattle.std.specs.List.{list_any};
 ghost use Rattle.std.specs.Vec.{vec_len, vec_capacity};
 ghost use Rattle.chain_control.specs.Requests.{goes_in, has_request};
 ghost use Rattle.chain_control.specs.Chains.{chain_of, without, committed, overtaken_by, with_link, unread, granted, trimmed, goers};
+ghost use Rattle.chain_control.specs.Tables.{no_one};
 
 use super::Line;
 use crate::links::{Link, floor, read};
@@ -31,8 +32,8 @@ impl Line {
     }
 
     /// Whether there is none.
-    pub fn is_idle(&self, ended: Attempt, new: Option<Number>) -> bool
-        ensures { result ≡ not (list_any (goes_in ended new (chain_of self.now).requests) (chain_of self.now).requests) }
+    pub fn is_idle(&self, key: Key, ended: Attempt, new: Option<Number>) -> bool
+        ensures { result ≡ no_one (goers key ended new (chain_of self.now)) }
     {
         !any_goes(&self.requests, ended, new)
     }
