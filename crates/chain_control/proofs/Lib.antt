@@ -4,3 +4,6 @@ pub mod Lists
 pub mod Apart
 pub mod Floors
 pub mod Bests
+pub mod Puts
+pub mod Asking
+pub mod Preparing
