@@ -7,3 +7,4 @@ pub mod Bests
 pub mod Puts
 pub mod Asking
 pub mod Preparing
+pub mod Keeping
