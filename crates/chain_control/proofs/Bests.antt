@@ -96,10 +96,10 @@ txn_same a b e = λ i. record { 0 = e i }
 txn_tells : (a b : TxnId) → (a ≡ b) ⊎ (a ≡ b → ⊥)
 txn_tells a b = grind (arith, nat_tests, txn_same a b)
 
-or_left : (a b : Bool) → a ≡ true → (a || b) ≡ true
+pub or_left : (a b : Bool) → a ≡ true → (a || b) ≡ true
 or_left a b e = grind arith
 
-or_right : (a b : Bool) → b ≡ true → (a || b) ≡ true
+pub or_right : (a b : Bool) → b ≡ true → (a || b) ≡ true
 or_right a b e = grind arith
 
 module _ (keep : ℕ) (loaded : Rows) (h : History) (o : Obeys loaded (mvcc keep loaded) h) (key : Key) where

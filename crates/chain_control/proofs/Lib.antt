@@ -8,3 +8,4 @@ pub mod Puts
 pub mod Asking
 pub mod Preparing
 pub mod Keeping
+pub mod Answering

@@ -8,6 +8,7 @@ use Rattle.deneva_base.specs.declared.rows.Keyed.{Keyed}
 use Rattle.deneva_base.specs.declared.rows.Cell.{Cell}
 use Rattle.deneva_base.specs.declared.causes.Cause.{Cause}
 use Rattle.deneva_base.specs.Latest.{row_for}
+use Rattle.deneva_base.specs.Modes.{reads}
 use Rattle.row_store.specs.declared.versions.Version.{Version}
 use Rattle.chain_control.specs.declared.requests.Request.{Request}
 use Rattle.chain_control.specs.declared.requests.Waiter.{Waiter}
@@ -36,9 +37,9 @@ abbrev pub refusal_in : Key → Request → Option Chain → Option Cause
 refusal_in key r None = None
 refusal_in key r (Some c) = refusal key r c
 
-abbrev pub stopped_in : ℕ → Option Chain → Bool
-stopped_in stamp None = false
-stopped_in stamp (Some c) = is_stopped (low_of stamp c) stamp c.requests
+abbrev pub stopped_in : Request → Option Chain → Bool
+stopped_in r None = false
+stopped_in r (Some c) = reads r.mode && is_stopped (low_of r.stamp c) r.stamp c.requests
 
 abbrev pub stamp_in : Attempt → Option Chain → ℕ
 stamp_in who None = 0

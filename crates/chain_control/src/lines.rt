@@ -85,12 +85,12 @@ impl Lines {
         }
     }
 
-    /// Whether a granted access writes between the version below the stamp and the stamp.
-    pub fn is_stopped(&self, key: Key, stamp: u64) -> bool
-        ensures { result ≡ stopped_in stamp (chain_at self.now key) }
+    /// Whether an access waits: it reads, and a granted access writes between the version below its stamp and its stamp.
+    pub fn is_stopped(&self, key: Key, asked: &Request) -> bool
+        ensures { result ≡ stopped_in asked.now (chain_at self.now key) }
     {
         match self.lines.get(&key) {
-            Some(line) => line.is_stopped(stamp),
+            Some(line) => asked.mode.is_reading() && line.is_stopped(asked.stamp),
             None => false,
         }
     }
