@@ -9,3 +9,4 @@ pub mod Asking
 pub mod Preparing
 pub mod Keeping
 pub mod Answering
+pub mod Tabling

@@ -1,5 +1,5 @@
 //! MVCC as a control.
-ghost use Rattle.std.specs.Prelude.{false, refl, ◌≡◌, Some, length};
+ghost use Rattle.std.specs.Prelude.{true, false, refl, ◌≡◌, Some, length};
 ghost use Rattle.deneva_base.specs.Mvcc.{mvcc};
 ghost use Rattle.deneva_base.specs.History.{History};
 ghost use Rattle.deneva_base.specs.Rows.{Row, Rows};
