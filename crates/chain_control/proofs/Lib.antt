@@ -10,3 +10,4 @@ pub mod Preparing
 pub mod Keeping
 pub mod Answering
 pub mod Tabling
+pub mod Ending
