@@ -11,3 +11,4 @@ pub mod Keeping
 pub mod Answering
 pub mod Tabling
 pub mod Ending
+pub mod Waking
