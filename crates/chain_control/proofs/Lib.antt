@@ -12,3 +12,4 @@ pub mod Answering
 pub mod Tabling
 pub mod Ending
 pub mod Waking
+pub mod Fronts
