@@ -13,3 +13,4 @@ pub mod Tabling
 pub mod Ending
 pub mod Waking
 pub mod Fronts
+pub mod Marking
