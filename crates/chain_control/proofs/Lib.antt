@@ -14,3 +14,4 @@ pub mod Ending
 pub mod Waking
 pub mod Fronts
 pub mod Marking
+pub mod Trimming
