@@ -125,7 +125,7 @@ module _ (keep : ℕ) (loaded : Rows) (h h1 : History) (who : Attempt) (number :
       and_true (holds h who a.key) (not (list_any (writer_between loaded h1 a) (holders h1)) && not (list_any (writer_between loaded h1 a) (waits h))) has
       (and_true (not (list_any (writer_between loaded h1 a) (holders h1))) (not (list_any (writer_between loaded h1 a) (waits h))) (ap not held) (ap not waiting))
 
-  from_goes : (a : Asked) → IsIn a (waits h) → goes_here a ≡ true → IsIn a.key (s.holding who).keys × (goes_in who (new a.key) (requests_in (s.chains a.key)) (waiter_of loaded h a) ≡ true)
+  pub from_goes : (a : Asked) → IsIn a (waits h) → goes_here a ≡ true → IsIn a.key (s.holding who).keys × (goes_in who (new a.key) (requests_in (s.chains a.key)) (waiter_of loaded h a) ≡ true)
   from_goes a i e =
       let p = and_parts (holds h who a.key) (not (list_any (writer_between loaded h1 a) (holders h1)) && not (list_any (writer_between loaded h1 a) (waits h))) e in
       let q = and_parts (not (list_any (writer_between loaded h1 a) (holders h1))) (not (list_any (writer_between loaded h1 a) (waits h))) p.1 in

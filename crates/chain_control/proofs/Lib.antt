@@ -15,3 +15,4 @@ pub mod Waking
 pub mod Fronts
 pub mod Marking
 pub mod Trimming
+pub mod Closing
