@@ -16,3 +16,4 @@ pub mod Fronts
 pub mod Marking
 pub mod Trimming
 pub mod Closing
+pub mod Calls
