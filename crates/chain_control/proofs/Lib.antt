@@ -17,3 +17,5 @@ pub mod Marking
 pub mod Trimming
 pub mod Closing
 pub mod Calls
+pub mod Asks
+pub mod Outcomes
