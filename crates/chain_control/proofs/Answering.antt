@@ -1,6 +1,6 @@
 -- What the table answers is what the rule says.
-use Rattle.std.proofs.Common.{◌≡◌, ◌≢◌, ◌⊎◌, ℕ, max, leb, eqb, ◌+◌, ◌^◌, ltb, ◌≤◌, ◌<◌, length, List, [], ◌∷◌, ◌++◌, filter, Bool, true, false, not, ◌&&◌, ◌||◌, cond, refl, sym, ap, ap₂, ◌∙◌, subst, inl, inr, ⊎_elim, arith, Option, Some, None, option_map, true≢false, map}
-use Rattle.std.proofs.lemmas.Bool.{le-leb, ltb-false, ltb-true, lt-ltb}
+use Rattle.std.proofs.Common.{◌≡◌, ◌⊎◌, ℕ, max, leb, eqb, ltb, ◌≤◌, length, List, [], ◌∷◌, ◌++◌, filter, Bool, true, false, not, ◌&&◌, cond, refl, sym, ap, ap₂, ◌∙◌, subst, inl, inr, ⊎_elim, arith, Option, Some, None, option_map, true≢false, map}
+use Rattle.std.proofs.lemmas.Bool.{le-leb, ltb-false}
 use Rattle.std.specs.Prelude.{is_some}
 use Rattle.std.specs.List.{list_any}
 use Rattle.deneva_base.specs.declared.keys.Key.{Key}
@@ -13,19 +13,18 @@ use Rattle.deneva_base.specs.declared.causes.Cause.{Cause}
 use Rattle.deneva_base.specs.declared.causes.Cause.TheVariants.{Trimmed, ReadLater}
 use Rattle.deneva_base.specs.declared.answers.Answer.{Answer}
 use Rattle.deneva_base.specs.declared.answers.Answer.TheVariants.{Granted, Waits, Refused}
-use Rattle.deneva_base.specs.declared.answers.Vote.TheVariants.{Yes}
 use Rattle.deneva_base.specs.Lists.{IsIn, greatest_by}
 use Rattle.deneva_base.specs.Rows.{Row, Rows, row_or_empty}
 use Rattle.deneva_base.specs.Keys.{key_eq, loaded_version}
 use Rattle.deneva_base.specs.Modes.{reads, writes}
 use Rattle.deneva_base.specs.Conditions.{MayAsk, MayPrepare}
-use Rattle.deneva_base.specs.History.{Ask, Prepare, Commit, Abort, History, Asked, Grant, asks, grants, waits, left_waiting, is_woken, yeas, IsUnended, stamp_of}
+use Rattle.deneva_base.specs.History.{Ask, Prepare, Commit, Abort, History, Asked, asks, grants, waits, left_waiting, is_woken, yeas, IsUnended, stamp_of}
 use Rattle.deneva_base.specs.Latest.{Version, latest, seen}
 use Rattle.deneva_base.specs.Rules.{Obeys}
 use Rattle.deneva_base.specs.Versions.{start, below}
-use Rattle.deneva_base.specs.Waiting.{this, as_asked, holders, older_writer, granted_with}
+use Rattle.deneva_base.specs.Waiting.{this, as_asked, holders, granted_with}
 use Rattle.deneva_base.specs.Mvcc.{as_great, floor, top_reader, writer_between, mvcc}
-use Rattle.deneva_base.proofs.Words.{key_decides, attempt_decides, attempt_tells, and_true, and_parts, any_at, any_found}
+use Rattle.deneva_base.proofs.Words.{key_decides, attempt_tells, and_true, and_parts, any_at, any_found}
 use Rattle.deneva_base.proofs.Sound.{Sound, writes_found}
 use Rattle.deneva_base.proofs.Known.{Known}
 use Rattle.deneva_base.proofs.Traced.{Traced}
@@ -38,16 +37,15 @@ use Rattle.row_store.specs.Stores.{Seen, version_at, row_in}
 use Rattle.control_core.specs.Leaving.{IsLoadedStore}
 use Rattle.control_core.proofs.Lasts.{last_latest}
 use Rattle.chain_control.specs.declared.requests.Request.{Request}
-use Rattle.chain_control.specs.declared.links.Link.{Link}
 use Rattle.chain_control.specs.declared.table.Table.{Table}
 use Rattle.chain_control.specs.Requests.{stands_between, is_none, stops, is_stopped, stamp_among}
 use Rattle.chain_control.specs.Links.{link_below}
 use Rattle.chain_control.specs.Chains.{Chain, refusal, refused_by, low_in, low_of}
 use Rattle.chain_control.specs.Tables.{chain_at, stamp_in}
-use Rattle.chain_control.specs.Holdings.{Holding, holding_at}
-use Rattle.chain_control.specs.Changes.{IsFresh, read_of, read_in, opened_with}
-use Rattle.chain_control.specs.Kept.{in_order, awaited, is_kept, kept}
-use Rattle.chain_control.specs.Standing.{State, state_of, requests_in, links_in, floor_in, link_of, owner_of, waiter_of, IsOwner, IsWaiter, StampsRise, Rising, Tracks, Keeps, version_of}
+use Rattle.chain_control.specs.Holdings.{Holding}
+use Rattle.chain_control.specs.Changes.{IsFresh, read_in, opened_with}
+use Rattle.chain_control.specs.Kept.{awaited, kept}
+use Rattle.chain_control.specs.Standing.{State, state_of, requests_in, links_in, floor_in, link_of, owner_of, IsOwner, IsWaiter, StampsRise, Rising, Tracks, Keeps, version_of}
 use Rattle.chain_control.proofs.Bests.{or_left, floor_keeps, best_is, passes_floor}
 
 pub bool_both : (a b : Bool) → (a ≡ true → b ≡ true) → (b ≡ true → a ≡ true) → a ≡ b

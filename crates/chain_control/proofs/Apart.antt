@@ -1,5 +1,5 @@
 -- No two versions of a key have one n, and what a call adds to them.
-use Rattle.std.proofs.Common.{◌≡◌, ◌≢◌, ◌⊎◌, ℕ, ◌≤◌, List, [], ◌∷◌, ◌++◌, filter, reverse, Bool, true, false, cond, ltb, refl, sym, ap, ◌∙◌, subst, inl, inr, ⊎_elim, arith, Option, Some, None}
+use Rattle.std.proofs.Common.{◌≡◌, ◌≢◌, ◌⊎◌, ℕ, ◌≤◌, List, [], ◌∷◌, ◌++◌, filter, Bool, true, false, cond, ltb, refl, sym, ap, ◌∙◌, subst, inl, inr, ⊎_elim, arith, Option, Some, None}
 use Rattle.std.specs.Prelude.{⊤}
 use Rattle.std.proofs.lemmas.Bool.Decides.{nat_tests}
 use Rattle.deneva_base.specs.declared.keys.Key.{Key}
@@ -11,10 +11,9 @@ use Rattle.deneva_base.specs.Rows.{Row, Rows}
 use Rattle.deneva_base.specs.Keys.{number_lt, number_eq}
 use Rattle.deneva_base.specs.History.{Ask, Prepare, Commit, Abort, History, yeas, ended, aborted}
 use Rattle.deneva_base.specs.Latest.{Version, row_for, writes_in}
-use Rattle.deneva_base.specs.Rules.{Rule, Obeys}
+use Rattle.deneva_base.specs.Rules.{Obeys}
 use Rattle.deneva_base.specs.Versions.{version_of, written, start, greatest, below}
 use Rattle.deneva_base.specs.Mvcc.{versions, mvcc}
-use Rattle.deneva_base.proofs.Words.{in_cases}
 use Rattle.deneva_base.proofs.Sound.{sound, row_found, writes_found}
 use Rattle.deneva_base.proofs.Known.{known}
 use Rattle.deneva_base.proofs.Traced.{traced}

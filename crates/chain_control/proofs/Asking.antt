@@ -1,5 +1,5 @@
 -- The table tracks the history with one more Ask.
-use Rattle.std.proofs.Common.{◌≡◌, ◌≢◌, ◌⊎◌, ℕ, ◌+◌, List, ◌∷◌, Bool, true, false, cond, refl, sym, ap, ◌∙◌, subst, inl, inr, ⊎_elim, arith, Option, Some, None, option_map}
+use Rattle.std.proofs.Common.{◌≡◌, ◌≢◌, ◌⊎◌, ℕ, ◌+◌, ◌∷◌, Bool, true, false, cond, refl, sym, ap, ◌∙◌, subst, inl, inr, ⊎_elim, arith, Option, Some, None, option_map}
 use Rattle.deneva_base.specs.declared.keys.Key.{Key}
 use Rattle.deneva_base.specs.declared.keys.Mode.{Mode}
 use Rattle.deneva_base.specs.declared.numbers.Attempt.{Attempt}
@@ -11,8 +11,7 @@ use Rattle.deneva_base.specs.Rows.{Row, Rows}
 use Rattle.deneva_base.specs.Conditions.{MayAsk}
 use Rattle.deneva_base.specs.Keys.{attempt_eq}
 use Rattle.deneva_base.specs.Modes.{reads}
-use Rattle.deneva_base.specs.Versions.{below}
-use Rattle.deneva_base.specs.History.{Ask, History, Asked, Grant, asks, grants, IsUnended}
+use Rattle.deneva_base.specs.History.{Ask, History, Asked, Grant, asks, IsUnended}
 use Rattle.deneva_base.proofs.Known.{Known}
 use Rattle.deneva_base.proofs.Traced.{Traced}
 use Rattle.deneva_base.proofs.Words.{attempt_tells}

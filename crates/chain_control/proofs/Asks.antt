@@ -1,9 +1,8 @@
 -- The asks of a table that stands for a history.
-use Rattle.std.proofs.Common.{◌≡◌, ℕ, ◌+◌, ◌^◌, ◌<◌, List, [], ◌∷◌, Bool, true, false, ◌&&◌, cond, refl, sym, ap, ap₂, ◌∙◌, subst, ⊎_elim, arith, Option, Some, None}
+use Rattle.std.proofs.Common.{◌≡◌, ℕ, ◌^◌, ◌<◌, List, ◌∷◌, true, false, cond, refl, sym, ap, ◌∙◌, subst, ⊎_elim, arith, Some, None}
 use Rattle.deneva_base.specs.declared.keys.Key.{Key}
 use Rattle.deneva_base.specs.declared.keys.Mode.{Mode}
 use Rattle.deneva_base.specs.declared.numbers.Attempt.{Attempt}
-use Rattle.deneva_base.specs.declared.numbers.Number.{Number}
 use Rattle.deneva_base.specs.declared.rows.Keyed.{Keyed}
 use Rattle.deneva_base.specs.declared.causes.Bound.{Bound}
 use Rattle.deneva_base.specs.declared.causes.Cause.{Cause}
@@ -17,13 +16,12 @@ use Rattle.deneva_base.specs.Versions.{below}
 use Rattle.deneva_base.specs.Waiting.{this}
 use Rattle.deneva_base.specs.Mvcc.{mvcc}
 use Rattle.chain_control.specs.declared.requests.Request.{Request}
-use Rattle.chain_control.specs.declared.links.Link.{Link}
 use Rattle.chain_control.specs.declared.table.Table.{Table}
 use Rattle.chain_control.specs.Chains.{Chain, refusal}
 use Rattle.chain_control.specs.Tables.{chain_at, below_in, refusal_in, stopped_in, stamp_in}
 use Rattle.chain_control.specs.Holdings.{holding_at}
-use Rattle.chain_control.specs.Changes.{Opens, Stays, Grants, Waiting, MayNote, Promises, MayReserve, read_of, read_in, waiting, opened_with}
-use Rattle.chain_control.specs.Standing.{State, state_of, link_of, waiter_of, Stands}
+use Rattle.chain_control.specs.Changes.{Opens, Stays, Grants, Waiting, MayNote, Promises, MayReserve, read_in, waiting, opened_with}
+use Rattle.chain_control.specs.Standing.{state_of, link_of, waiter_of, Stands}
 use Rattle.chain_control.proofs.Places.{same_tells}
 use Rattle.chain_control.proofs.Asking.{grants_more, waits_more, ask_granted, ask_waits, ask_refused}
 use Rattle.chain_control.proofs.Preparing.{opened_tracks, opened_keeps, stays_tracks, stays_keeps, noted_tracks, noted_keeps, reserved_tracks, reserved_keeps, prepared_tracks, prepared_keeps}

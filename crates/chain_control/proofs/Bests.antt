@@ -1,6 +1,6 @@
 -- The version below a stamp among those that are kept.
-use Rattle.std.proofs.Common.{◌≡◌, ◌⊎◌, ℕ, ◌<◌, ◌≤◌, leb, List, [], ◌∷◌, map, filter, Bool, true, false, cond, ◌||◌, ◌&&◌, eqb, ltb, refl, sym, ap, ◌∙◌, subst, inl, inr, ⊎_elim, arith, Option, Some, None, true≢false}
-use Rattle.std.proofs.lemmas.Bool.{cases_lt, ltb-true, lt-ltb, leb-true, le-leb}
+use Rattle.std.proofs.Common.{◌≡◌, ◌⊎◌, ℕ, ◌<◌, ◌≤◌, leb, List, [], ◌∷◌, map, Bool, true, false, cond, ◌||◌, ◌&&◌, eqb, ltb, refl, sym, ap, ◌∙◌, subst, inl, inr, ⊎_elim, arith, Option, Some, None, true≢false}
+use Rattle.std.proofs.lemmas.Bool.{cases_lt, ltb-true, lt-ltb, le-leb}
 use Rattle.std.proofs.lemmas.Bool.Decides.{nat_tests}
 use Rattle.deneva_base.specs.declared.keys.Key.{Key}
 use Rattle.deneva_base.specs.declared.numbers.TxnId.{TxnId}
@@ -13,7 +13,7 @@ use Rattle.deneva_base.specs.Conditions.{MayAsk}
 use Rattle.deneva_base.specs.History.{History, Asked, waits, ended, aborted}
 use Rattle.deneva_base.specs.Latest.{Version}
 use Rattle.deneva_base.specs.Rules.{Obeys}
-use Rattle.deneva_base.specs.Versions.{written, start, below}
+use Rattle.deneva_base.specs.Versions.{written, below}
 use Rattle.deneva_base.specs.Mvcc.{versions, as_great, nth_greatest, floor, mvcc}
 use Rattle.deneva_base.proofs.Words.{in_map, in_map_from, in_filter, filter_in, and_true, any_at, attempt_tells, key_decides}
 use Rattle.deneva_base.proofs.Sound.{sound}

@@ -1,31 +1,24 @@
 -- The calls of a table that stands for a history.
-use Rattle.std.proofs.Common.{◌≡◌, ◌≢◌, ◌⊎◌, ℕ, ◌+◌, ◌^◌, ◌<◌, ◌≤◌, List, [], ◌∷◌, ◌++◌, map, filter, length, Bool, true, false, not, ◌&&◌, cond, ltb, refl, sym, ap, ap₂, ◌∙◌, subst, inl, inr, ⊎_elim, arith, Option, Some, None, option_map, true≢false}
-use Rattle.std.specs.Prelude.{is_some}
-use Rattle.std.specs.List.{list_any}
+use Rattle.std.proofs.Common.{◌≡◌, ℕ, ◌≤◌, List, [], ◌∷◌, ◌++◌, map, filter, length, Bool, true, false, not, ◌&&◌, cond, ltb, refl, sym, ap, ap₂, ◌∙◌, subst, inl, inr, arith, Option, Some, None, option_map}
 use Rattle.deneva_base.specs.declared.keys.Key.{Key}
 use Rattle.deneva_base.specs.declared.keys.Mode.{Mode}
 use Rattle.deneva_base.specs.declared.numbers.Attempt.{Attempt}
 use Rattle.deneva_base.specs.declared.numbers.Number.{Number}
 use Rattle.deneva_base.specs.declared.rows.Keyed.{Keyed}
 use Rattle.deneva_base.specs.declared.rows.Cell.{Cell}
-use Rattle.deneva_base.specs.declared.causes.Bound.{Bound}
-use Rattle.deneva_base.specs.declared.causes.Cause.{Cause}
 use Rattle.deneva_base.specs.declared.answers.Wake.{Wake}
-use Rattle.deneva_base.specs.declared.answers.Answer.TheVariants.{Granted, Waits, Refused}
-use Rattle.deneva_base.specs.declared.answers.Vote.TheVariants.{Yes}
-use Rattle.deneva_base.specs.Lists.{IsIn, greatest_by, sort}
+use Rattle.deneva_base.specs.Lists.{IsIn, sort}
 use Rattle.deneva_base.specs.Rows.{Row, Rows}
 use Rattle.deneva_base.specs.Keys.{number_lt}
-use Rattle.deneva_base.specs.Modes.{reads, IsReading}
-use Rattle.deneva_base.specs.Conditions.{MayAsk, MayPrepare, MayCommit, MayAbort}
-use Rattle.deneva_base.specs.History.{Ask, Prepare, Commit, Abort, History, Asked, asks, grants, waits, yeas, closed, grant_of_wake, is_woken, IsUnended, WaitsNowhere, stamp_of}
+use Rattle.deneva_base.specs.Modes.{IsReading}
+use Rattle.deneva_base.specs.Conditions.{MayCommit, MayAbort}
+use Rattle.deneva_base.specs.History.{Commit, Abort, History, Asked, grants, waits, yeas, closed, grant_of_wake, is_woken, IsUnended, WaitsNowhere}
 use Rattle.deneva_base.specs.Latest.{Version, latest, newer, seen, row_for, writes_in}
 use Rattle.deneva_base.specs.Leaving.{later, left_in, rows_left}
 use Rattle.deneva_base.specs.Order.{by_rising_stamp}
-use Rattle.deneva_base.specs.Rules.{Obeys}
 use Rattle.deneva_base.specs.Versions.{version_of as version_list, written, start, greatest, below}
 use Rattle.deneva_base.specs.Waiting.{goes, wake_of}
-use Rattle.deneva_base.specs.Mvcc.{floor, writer_between, mvcc}
+use Rattle.deneva_base.specs.Mvcc.{writer_between, mvcc}
 use Rattle.deneva_base.specs.Wakes.{KeepsWakes}
 use Rattle.deneva_base.proofs.Words.{filter_in, reading_decides}
 use Rattle.deneva_base.proofs.Sound.{Sound, sound}
@@ -39,23 +32,22 @@ use Rattle.row_store.specs.declared.versions.Version.{Version as StoredVersion}
 use Rattle.row_store.specs.Stores.{version_at, has, row_in}
 use Rattle.control_core.specs.Leaving.{last}
 use Rattle.control_core.proofs.Lasts.{last_rows}
-use Rattle.chain_control.specs.declared.requests.Request.{Request}
 use Rattle.chain_control.specs.declared.requests.Waiter.{Waiter}
 use Rattle.chain_control.specs.declared.links.Link.{Link}
 use Rattle.chain_control.specs.declared.table.Table.{Table}
 use Rattle.chain_control.specs.Requests.{raised}
 use Rattle.chain_control.specs.Links.{link_below}
 use Rattle.chain_control.specs.Chains.{Chain}
-use Rattle.chain_control.specs.Tables.{chain_at, below_in, stamp_in, kept_in, new_of, goers_over}
+use Rattle.chain_control.specs.Tables.{chain_at, below_in, kept_in, new_of, goers_over}
 use Rattle.chain_control.specs.Holdings.{holding_at}
-use Rattle.chain_control.specs.Changes.{Ends, opened_with, read_of, read_after, wake_for, offered}
+use Rattle.chain_control.specs.Changes.{Ends, opened_with, read_after, wake_for, offered}
 use Rattle.chain_control.specs.Kept.{kept}
-use Rattle.chain_control.specs.Standing.{State, state_of, requests_in, links_in, link_of, waiter_of, Tracks, Keeps, Stands, version_of}
+use Rattle.chain_control.specs.Standing.{state_of, requests_in, links_in, link_of, waiter_of, Stands, version_of}
 use Rattle.chain_control.proofs.Bests.{waiter_keeps, best_is}
 use Rattle.chain_control.proofs.Keeping.{opened_some}
 use Rattle.chain_control.proofs.Answering.{version_is, is_present, length_filter}
-use Rattle.chain_control.proofs.Ending.{Apart, votes_apart, promised_less, waits_same, Closes, committed_version}
-use Rattle.chain_control.proofs.Waking.{to_waiter, Wakens, length_map, length_sort}
+use Rattle.chain_control.proofs.Ending.{Apart, votes_apart, promised_less, waits_same, committed_version}
+use Rattle.chain_control.proofs.Waking.{to_waiter, length_map, length_sort}
 use Rattle.chain_control.proofs.Closing.{Step, front_table, end_tracks, end_keeps}
 
 -- the version below a stamp with a row that comes under a number

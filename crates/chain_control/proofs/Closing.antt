@@ -1,18 +1,16 @@
 -- The table stands for the history with the end of an attempt, and with the wakes.
-use Rattle.std.proofs.Common.{◌≡◌, ◌≢◌, ◌⊎◌, ℕ, ◌+◌, ◌≤◌, leb, eqb, List, [], ◌∷◌, ◌++◌, map, filter, length, Bool, true, false, not, ◌&&◌, ◌||◌, cond, ltb, refl, sym, ap, ap₂, ◌∙◌, subst, inl, inr, ⊎_elim, arith, Option, Some, None, option_map, true≢false}
-use Rattle.std.proofs.lemmas.Bool.{cases_Bool, false_from_ne_true}
+use Rattle.std.proofs.Common.{◌≡◌, ◌≢◌, ℕ, eqb, List, [], ◌∷◌, ◌++◌, map, filter, length, Bool, true, false, not, cond, refl, sym, ap, ◌∙◌, subst, ⊎_elim, arith, Option, Some, None, option_map, true≢false}
+use Rattle.std.proofs.lemmas.Bool.{false_from_ne_true}
 use Rattle.std.specs.List.{list_any}
 use Rattle.deneva_base.specs.declared.keys.Key.{Key}
 use Rattle.deneva_base.specs.declared.numbers.Attempt.{Attempt}
 use Rattle.deneva_base.specs.declared.numbers.Number.{Number}
-use Rattle.deneva_base.specs.declared.rows.Keyed.{Keyed}
-use Rattle.deneva_base.specs.declared.rows.Cell.{Cell}
 use Rattle.deneva_base.specs.declared.answers.Wake.{Wake}
 use Rattle.deneva_base.specs.Lists.{IsIn, sort}
 use Rattle.deneva_base.specs.Rows.{Row, Rows}
 use Rattle.deneva_base.specs.Keys.{key_eq}
 use Rattle.deneva_base.specs.Modes.{IsReading}
-use Rattle.deneva_base.specs.History.{History, Asked, Grant, grants, waits, yeas, grant_of_wake, is_woken}
+use Rattle.deneva_base.specs.History.{History, Asked, grants, waits, yeas, grant_of_wake, is_woken}
 use Rattle.deneva_base.specs.Latest.{Version, latest, row_for, writes_in}
 use Rattle.deneva_base.specs.Order.{by_rising_stamp}
 use Rattle.deneva_base.specs.Rules.{Obeys}
@@ -25,17 +23,15 @@ use Rattle.deneva_base.proofs.Known.{Known}
 use Rattle.deneva_base.proofs.Sorts.{Distinct, sort_in}
 use Rattle.deneva_base.proofs.Woken.{woken_in, in_woken}
 use Rattle.row_store.specs.declared.versions.Version.{Version as StoredVersion}
-use Rattle.row_store.specs.Stores.{version_at}
 use Rattle.control_core.specs.Leaving.{last}
 use Rattle.control_core.proofs.Lasts.{last_latest}
-use Rattle.chain_control.specs.declared.requests.Request.{Request}
 use Rattle.chain_control.specs.declared.requests.Waiter.{Waiter}
 use Rattle.chain_control.specs.declared.links.Link.{Link}
 use Rattle.chain_control.specs.declared.table.Table.{Table}
 use Rattle.chain_control.specs.Requests.{has_request}
 use Rattle.chain_control.specs.Links.{floor_of}
 use Rattle.chain_control.specs.Chains.{Chain, without, unread, overwritten, stays, trimmed}
-use Rattle.chain_control.specs.Tables.{new_of, goers_over, changed, key_of, waiter_key, wakes_at, trims_at}
+use Rattle.chain_control.specs.Tables.{goers_over, changed, key_of, waiter_key, wakes_at, trims_at}
 use Rattle.chain_control.specs.Holdings.{holding_at}
 use Rattle.chain_control.specs.Changes.{Ends, opened_with}
 use Rattle.chain_control.specs.Kept.{in_order, is_kept, kept}
@@ -44,7 +40,7 @@ use Rattle.chain_control.proofs.Lists.{map_same, map_both, filter_map}
 use Rattle.chain_control.proofs.Keeping.{opened_some}
 use Rattle.chain_control.proofs.Tabling.{changed_none, changed_nothing, changed_once, end_row, granted_by, reads_by, wakes_is, wakes_nothing, wakes_requests, trims_requests}
 use Rattle.chain_control.proofs.Ending.{Apart, Closes, between, writer, ended_chain, ended_nothing, closed_tracks}
-use Rattle.chain_control.proofs.Waking.{to_waiter, Wakens, wake_tracks, length_map}
+use Rattle.chain_control.proofs.Waking.{to_waiter, Wakens, wake_tracks}
 use Rattle.chain_control.proofs.Fronts.{from_goes, front_all}
 use Rattle.chain_control.proofs.Marking.{reads_none, marks}
 use Rattle.chain_control.proofs.Trimming.{news, kept_is, links_is, floor_is, same_floor, same_kept, stays_is}
@@ -188,10 +184,9 @@ module _ (keep : ℕ) (loaded : Rows) (h h1 h2 : History) (who : Attempt) (numbe
             ∙ changed_nothing key_of trims_at (s.holding who).keys k (λ x. refl) in
             let version : option_map version_of (s'.versions k) ≡ option_map version_of (s.versions k) =
             t'.versions k ∙ last_latest loaded (mvcc keep loaded) h2 k row p.obeys is (t.tables k row is) ∙ ap (λ v. Some v) (p.latest_same k none)
-            ∙ sym (t.versions k ∙ last_latest loaded (mvcc keep loaded) h k row o is (t.tables k row is)) in
-            (
+            ∙ sym (t.versions k ∙ last_latest loaded (mvcc keep loaded) h k row o is (t.tables k row is)) in (
               ap (λ c. links_in (opened_with (s'.versions k) c)) chain ∙ unopened (s'.versions k) ∙ ap from_version version ∙ sym (unopened (s.versions k))
-              ∙ ap (λ c. links_in (opened_with (s.versions k) c)) (sym nothing) ∙ kt.links k row is ∙ links_same,
+                  ∙ ap (λ c. links_in (opened_with (s.versions k) c)) (sym nothing) ∙ kt.links k row is ∙ links_same,
               ap (λ c. floor_in (opened_with (s'.versions k) c)) chain ∙ no_floor (s'.versions k) ∙ sym (no_floor (s.versions k)) ∙ ap (λ c. floor_in (opened_with (s.versions k) c)) (sym nothing) ∙ kt.floor k row is ∙ sym floor_same,
             )
 
@@ -207,13 +202,12 @@ module _ (keep : ℕ) (loaded : Rows) (h h1 h2 : History) (who : Attempt) (numbe
             ∙ changed_none key_of trims_at (s.holding who).keys k (Some d3) (λ q i same. out (subst (λ z. IsIn z (s.holding who).keys) same i)) in
             let stay : end_row keep who number (row_for k (writes_in (yeas h) who)) d ≡ d = ap (λ r. end_row keep who number r d) none ∙ row_none keep who number d in
             let opened : opened_with (s.versions k) (s.chains k) ≡ Some d = ap (opened_with (s.versions k)) some ∙ opened_some (s.versions k) d in
-            let links : d.links ≡ map (link_of h k) (kept keep loaded h k) = sym (ap links_in opened) ∙ kt.links k row is in
-            (
+            let links : d.links ≡ map (link_of h k) (kept keep loaded h k) = sym (ap links_in opened) ∙ kt.links k row is in (
               ap links_in (ap (opened_with (s'.versions k)) chain ∙ opened_some (s'.versions k) d3)
-              ∙ ap (λ (c : Chain). map (reads_by k_front k) c.links) stay
-              ∙ ap (map (reads_by k_front k)) links
-              ∙ map_both (reads_by k_front k) (link_of h k) (link_of h2 k) (kept keep loaded h k) (λ v i. mark v)
-              ∙ ap (map (link_of h2 k)) (sym kept_same),
+                  ∙ ap (λ (c : Chain). map (reads_by k_front k) c.links) stay
+                  ∙ ap (map (reads_by k_front k)) links
+                  ∙ map_both (reads_by k_front k) (link_of h k) (link_of h2 k) (kept keep loaded h k) (λ v i. mark v)
+                  ∙ ap (map (link_of h2 k)) (sym kept_same),
               ap floor_in (ap (opened_with (s'.versions k)) chain ∙ opened_some (s'.versions k) d3) ∙ ap (λ (c : Chain). c.floor) stay ∙ sym (ap floor_in opened) ∙ kt.floor k row is ∙ sym floor_same,
             )
 
@@ -238,14 +232,13 @@ module _ (keep : ℕ) (loaded : Rows) (h h1 h2 : History) (who : Attempt) (numbe
           let at_floor : d1.floor ≡ floor keep loaded h2 k =
           row_floor keep who number (row_for k (writes_in (yeas h) who)) d (floor keep loaded h2 k) has
           (λ nothing. sym (ap floor_in opened) ∙ kt.floor k row is ∙ sym (ap (λ (vs : List Version). cond (eqb keep 0) 0 (nth_greatest keep (start loaded k ∷ vs))) (p.written_more k ∙ ap (λ (vs : List Version). vs ++ written h k) nothing)))
-          (ap (floor_of keep) links ∙ floor_is keep loaded h h2 who number wakes o p.obeys p.written_more p.waits_less k) in
-          (
+          (ap (floor_of keep) links ∙ floor_is keep loaded h h2 who number wakes o p.obeys p.written_more p.waits_less k) in (
             ap links_in (ap (opened_with (s'.versions k)) chain ∙ opened_some (s'.versions k) (trimmed d3))
-            ∙ ap (λ ls. filter (stays d3) (map (reads_by k_front k) ls)) links
-            ∙ ap (filter (stays d3)) (map_both (reads_by k_front k) (link_of h k) (link_of h2 k) (filter (is_kept keep loaded h k) (in_order loaded h k) ++ news number (row_for k (writes_in (yeas h) who))) (λ v i. mark v))
-            ∙ filter_map (link_of h2 k) (stays d3) (is_kept keep loaded h2 k) (filter (is_kept keep loaded h k) (in_order loaded h k) ++ news number (row_for k (writes_in (yeas h) who)))
-            (λ v. stays_is keep loaded h h2 who number wakes o p.obeys p.written_more p.waits_less s' t' k v d3.floor d3.requests at_floor (sym (ap requests_in chain)))
-            ∙ ap (map (link_of h2 k)) (kept_is keep loaded h h2 who number wakes o p.obeys p.written_more p.waits_less k),
+                ∙ ap (λ ls. filter (stays d3) (map (reads_by k_front k) ls)) links
+                ∙ ap (filter (stays d3)) (map_both (reads_by k_front k) (link_of h k) (link_of h2 k) (filter (is_kept keep loaded h k) (in_order loaded h k) ++ news number (row_for k (writes_in (yeas h) who))) (λ v i. mark v))
+                ∙ filter_map (link_of h2 k) (stays d3) (is_kept keep loaded h2 k) (filter (is_kept keep loaded h k) (in_order loaded h k) ++ news number (row_for k (writes_in (yeas h) who)))
+                (λ v. stays_is keep loaded h h2 who number wakes o p.obeys p.written_more p.waits_less s' t' k v d3.floor d3.requests at_floor (sym (ap requests_in chain)))
+                ∙ ap (map (link_of h2 k)) (kept_is keep loaded h h2 who number wakes o p.obeys p.written_more p.waits_less k),
             ap floor_in (ap (opened_with (s'.versions k)) chain ∙ opened_some (s'.versions k) (trimmed d3)) ∙ at_floor,
           )
 

@@ -1,5 +1,5 @@
 -- The table tracks the history with the end of an attempt that wakes nobody.
-use Rattle.std.proofs.Common.{◌≡◌, ◌≢◌, ◌⊎◌, ℕ, ◌+◌, List, [], ◌∷◌, map, filter, Bool, true, false, not, ◌||◌, cond, length, refl, sym, ap, ◌∙◌, subst, inl, inr, ⊎_elim, arith, Option, Some, None, option_map, true≢false}
+use Rattle.std.proofs.Common.{◌≡◌, ◌≢◌, ℕ, ◌+◌, List, [], ◌∷◌, map, filter, Bool, true, false, not, cond, length, refl, sym, ap, ◌∙◌, subst, inl, inr, ⊎_elim, arith, Option, Some, None, option_map}
 use Rattle.std.specs.List.{list_any}
 use Rattle.std.specs.Prelude.{⊤}
 use Rattle.deneva_base.specs.declared.keys.Key.{Key}
@@ -16,7 +16,7 @@ use Rattle.deneva_base.specs.Latest.{row_for, writes_in, has_ended}
 use Rattle.deneva_base.specs.Rules.{Rule, Obeys}
 use Rattle.deneva_base.specs.Versions.{below}
 use Rattle.deneva_base.specs.Leaving.{later, left_in as rows_in_vote}
-use Rattle.deneva_base.proofs.Words.{in_map, in_map_from, any_at, any_found, attempt_tells, attempt_decides}
+use Rattle.deneva_base.proofs.Words.{in_map, in_map_from, any_at, attempt_tells, attempt_decides}
 use Rattle.deneva_base.proofs.Sound.{Sound, row_found, writes_found}
 use Rattle.row_store.specs.declared.versions.Version.{Version as StoredVersion}
 use Rattle.row_store.specs.Stores.{newest}
@@ -26,7 +26,7 @@ use Rattle.chain_control.specs.declared.requests.Request.{Request}
 use Rattle.chain_control.specs.declared.requests.Waiter.{Waiter}
 use Rattle.chain_control.specs.declared.table.Table.{Table}
 use Rattle.chain_control.specs.Requests.{raised, has_request, overtaken}
-use Rattle.chain_control.specs.Chains.{Chain, without, overwritten, committed}
+use Rattle.chain_control.specs.Chains.{Chain, without, overwritten}
 use Rattle.chain_control.specs.Tables.{same_key, new_of, changed, key_of, ends_at}
 use Rattle.chain_control.specs.Holdings.{Holding, nothing}
 use Rattle.chain_control.specs.Changes.{Ends, offered, commits_left}
@@ -34,7 +34,7 @@ use Rattle.chain_control.specs.Standing.{State, state_of, requests_in, owner_of,
 use Rattle.chain_control.proofs.Places.{same_tells}
 use Rattle.chain_control.proofs.Puts.{left_in, in_left, filter_none, rise_filter, rise_map}
 use Rattle.chain_control.proofs.Preparing.{unended_test}
-use Rattle.chain_control.proofs.Tabling.{changed_nothing, commit_row, end_row, ends_is, ends_nothing}
+use Rattle.chain_control.proofs.Tabling.{changed_nothing, end_row, ends_is, ends_nothing}
 
 -- rows that come under a number
 pub offered_later : (n : Number) (rows : List Keyed) (key : Key) (v : Option StoredVersion) → option_map version_of (offered n rows key v) ≡ later (option_map version_of v) n (row_for key rows)
@@ -95,7 +95,6 @@ promised_less h h' who (y ∷ ys) e u a = ⊎_elim
     let same : has_ended h' y.who ≡ has_ended h y.who = ap (λ l. list_any (attempt_eq y.who) l) e ∙ rw f.0 refl in
     rw (same, f.0) (omega (arith, rest)))
     (attempt_tells y.who who)
-
 
 pub waits_same : (ws : List Asked) → filter (λ a. not (is_woken [] a)) ws ≡ ws
 waits_same [] = refl

@@ -1,8 +1,7 @@
 -- The floor of a key over any list of its versions that has the greatest.
-use Rattle.std.proofs.Common.{◌≡◌, ◌⊎◌, ℕ, ◌+◌, ◌<◌, ◌≤◌, leb, List, [], ◌∷◌, ◌++◌, map, filter, reverse, length, Bool, true, false, cond, not, ◌&&◌, eqb, refl, sym, ap, ◌∙◌, subst, inl, inr, ⊎_elim, arith, Option, Some, None, true≢false}
+use Rattle.std.proofs.Common.{◌≡◌, ◌⊎◌, ℕ, ◌+◌, ◌<◌, ◌≤◌, leb, List, [], ◌∷◌, ◌++◌, filter, reverse, length, Bool, true, false, cond, not, eqb, refl, sym, ap, ◌∙◌, subst, inl, inr, ⊎_elim, arith, Option, Some, None, true≢false}
 use Rattle.std.proofs.lemmas.Bool.{cases_lt, leb-true, le-leb}
 use Rattle.std.proofs.lemmas.List.{reverse-append, reverse-reverse}
-use Rattle.std.proofs.lemmas.Bool.Decides.{nat_tests}
 use Rattle.deneva_base.specs.declared.keys.Key.{Key}
 use Rattle.deneva_base.specs.declared.numbers.Number.{Number}
 use Rattle.deneva_base.specs.Lists.{IsIn, greatest_by}
@@ -11,8 +10,8 @@ use Rattle.deneva_base.specs.Keys.{number_lt}
 use Rattle.deneva_base.specs.History.{History}
 use Rattle.deneva_base.specs.Latest.{Version}
 use Rattle.deneva_base.specs.Versions.{version_of, written, start}
-use Rattle.deneva_base.specs.Mvcc.{versions, as_great, nth_greatest, floor}
-use Rattle.deneva_base.proofs.Words.{in_left, in_right, in_cases}
+use Rattle.deneva_base.specs.Mvcc.{versions, as_great, nth_greatest}
+use Rattle.deneva_base.proofs.Words.{in_left, in_right}
 use Rattle.deneva_base.proofs.Belows.{greatest_le, not_above}
 use Rattle.deneva_base.proofs.Timestamps.{top_by}
 use Rattle.chain_control.specs.Kept.{in_order}

@@ -14,7 +14,7 @@ use Rattle.deneva_base.specs.History.{History, Asked, Grant, grants, waits, yeas
 use Rattle.deneva_base.specs.Latest.{row_for, writes_in}
 use Rattle.deneva_base.specs.Order.{Sorted, by_rising_stamp}
 use Rattle.deneva_base.specs.Versions.{below}
-use Rattle.deneva_base.specs.Waiting.{this, as_asked, holders, holds, goes}
+use Rattle.deneva_base.specs.Waiting.{as_asked, holders, holds, goes}
 use Rattle.deneva_base.specs.Mvcc.{writer_between}
 use Rattle.deneva_base.proofs.Words.{in_cases, in_left, in_right, in_map, in_map_from, in_filter, filter_in, any_at, any_found, and_true, and_parts, key_tells, key_decides, attempt_tells, attempt_decides}
 use Rattle.deneva_base.proofs.Known.{Known}
@@ -22,9 +22,8 @@ use Rattle.deneva_base.proofs.Sorts.{Distinct, distinct_filter, sort_in, in_sort
 use Rattle.deneva_base.proofs.Stamped.{waits_total}
 use Rattle.deneva_base.proofs.Stops.{held_from, in_held}
 use Rattle.chain_control.specs.declared.requests.Request.{Request}
-use Rattle.chain_control.specs.declared.requests.Waiter.{Waiter}
 use Rattle.chain_control.specs.declared.lines.Lines.{Lines}
-use Rattle.chain_control.specs.Requests.{raised, stands_between, bars, is_barred, goes_in, waiter_for}
+use Rattle.chain_control.specs.Requests.{stands_between, bars, is_barred, goes_in, waiter_for}
 use Rattle.chain_control.specs.Chains.{Chain}
 use Rattle.chain_control.specs.Tables.{chain_at, new_of, goers_in, goers_over}
 use Rattle.chain_control.specs.Standing.{State, requests_in, owner_of, waiter_of, IsOwner, IsWaiter, StampsRise, Rising, Tracks}
@@ -83,13 +82,19 @@ module _ (keep : ℕ) (loaded : Rows) (h h1 : History) (who : Attempt) (number :
       (λ (o : IsOwner h a.key r).
       let other : o.grant.who ≢ who = λ x. ⊎_elim (λ m. true≢false (sym p.0 ∙ ap not m.0)) (λ m. m.1 (ap (λ (z : Request). z.who) o.same ∙ x)) (attempt_tells r.who who) in
       let unended : IsUnended h1 o.grant.who = λ j. ⊎_elim (λ x. other x) (λ k. o.unended k) (subst (λ l. IsIn o.grant.who l) c.ended_more j) in
-      inl (as_asked o.grant, in_held h1 (grants h1) o.grant (subst (λ l. IsIn o.grant l) (sym c.grants_same) o.there) unended,
-      between_is loaded h1 a.who a.stamp a.key a.mode (as_asked o.grant) r (ap (λ (z : Request). z.stamp) o.same) (ap (λ (z : Request). z.mode) o.same)
-      ∙ and_true (key_eq o.grant.key a.key) (stands_between (low a) a.stamp r) ((key_decides o.grant.key a.key).1 o.here) p.1))
+      inl (
+        as_asked o.grant,
+        in_held h1 (grants h1) o.grant (subst (λ l. IsIn o.grant l) (sym c.grants_same) o.there) unended,
+        between_is loaded h1 a.who a.stamp a.key a.mode (as_asked o.grant) r (ap (λ (z : Request). z.stamp) o.same) (ap (λ (z : Request). z.mode) o.same)
+            ∙ and_true (key_eq o.grant.key a.key) (stands_between (low a) a.stamp r) ((key_decides o.grant.key a.key).1 o.here) p.1,
+      ))
       (λ (q : IsWaiter loaded h a.key r).
-      inr (q.asked, q.there,
-      between_is loaded h1 a.who a.stamp a.key a.mode q.asked r (ap (λ (z : Request). z.stamp) q.same) (ap (λ (z : Request). z.mode) q.same)
-      ∙ and_true (key_eq q.asked.key a.key) (stands_between (low a) a.stamp r) ((key_decides q.asked.key a.key).1 q.here) p.1))
+      inr (
+        q.asked,
+        q.there,
+        between_is loaded h1 a.who a.stamp a.key a.mode q.asked r (ap (λ (z : Request). z.stamp) q.same) (ap (λ (z : Request). z.mode) q.same)
+            ∙ and_true (key_eq q.asked.key a.key) (stands_between (low a) a.stamp r) ((key_decides q.asked.key a.key).1 q.here) p.1,
+      ))
       (t.real a.key r i)
 
   bar : (a : Asked) (r : Request) → IsIn r (requests_in (s.chains a.key)) → r.who ≢ who → stands_between (low a) a.stamp r ≡ true → is_barred who (low a) a.stamp (requests_in (s.chains a.key)) ≡ true
@@ -132,15 +137,14 @@ module _ (keep : ℕ) (loaded : Rows) (h h1 : History) (who : Attempt) (number :
       let f = any_found (λ (g : Grant). attempt_eq g.who who && key_eq g.key a.key) (grants h) p.0 in
       let r = and_parts (attempt_eq f.0.who who) (key_eq f.0.key a.key) f.2 in
       let mine : f.0.who ≡ who = (attempt_decides f.0.who who).0 r.0 in
-      let noted = t.noted f.0 f.1 (subst (λ w. IsUnended h w) (sym mine) c.unended) in
-      (
+      let noted = t.noted f.0 f.1 (subst (λ w. IsUnended h w) (sym mine) c.unended) in (
         subst (λ k. IsIn k (s.holding who).keys) ((key_decides f.0.key a.key).0 r.1) (subst (λ w. IsIn f.0.key (s.holding w).keys) mine noted),
         goes_test a i ∙ ap not (false_from_ne_true (is_barred who (low a) a.stamp (requests_in (s.chains a.key))) (λ b.
-        let x = any_found (bars who (low a) a.stamp) (requests_in (s.chains a.key)) b in
-        ⊎_elim
-        (λ y. true≢false (sym (any_at (writer_between loaded h1 a) y.0 (holders h1) y.1 y.2) ∙ not_false (list_any (writer_between loaded h1 a) (holders h1)) q.0))
-        (λ y. true≢false (sym (any_at (writer_between loaded h1 a) y.0 (waits h) y.1 y.2) ∙ not_false (list_any (writer_between loaded h1 a) (waits h)) q.1))
-        (barred_stops a x.0 x.1 x.2))),
+            let x = any_found (bars who (low a) a.stamp) (requests_in (s.chains a.key)) b in
+            ⊎_elim
+            (λ y. true≢false (sym (any_at (writer_between loaded h1 a) y.0 (holders h1) y.1 y.2) ∙ not_false (list_any (writer_between loaded h1 a) (holders h1)) q.0))
+            (λ y. true≢false (sym (any_at (writer_between loaded h1 a) y.0 (waits h) y.1 y.2) ∙ not_false (list_any (writer_between loaded h1 a) (waits h)) q.1))
+            (barred_stops a x.0 x.1 x.2))),
       )
 
   -- those of one key

@@ -1,14 +1,13 @@
 -- The marks of the versions after an end.
-use Rattle.std.proofs.Common.{◌≡◌, ◌≢◌, ◌⊎◌, ℕ, max, ◌≤◌, List, [], ◌∷◌, ◌++◌, map, Bool, true, false, ◌&&◌, cond, refl, sym, ap, ap₂, ◌∙◌, subst, inl, inr, ⊎_elim, arith}
+use Rattle.std.proofs.Common.{◌≡◌, ◌≢◌, ℕ, max, List, [], ◌∷◌, ◌++◌, map, Bool, true, false, ◌&&◌, cond, refl, sym, ap, ap₂, ◌∙◌, inl, inr, ⊎_elim, arith}
 use Rattle.deneva_base.specs.declared.keys.Key.{Key}
-use Rattle.deneva_base.specs.declared.keys.Mode.{Mode}
 use Rattle.deneva_base.specs.declared.numbers.Number.{Number}
 use Rattle.deneva_base.specs.Lists.{IsIn, greatest_by}
 use Rattle.deneva_base.specs.Rows.{Rows}
 use Rattle.deneva_base.specs.Keys.{key_eq, number_eq, loaded_version}
 use Rattle.deneva_base.specs.Modes.{reads, IsReading}
 use Rattle.deneva_base.specs.History.{History, Asked, Grant, asks, grants, waits, grant_of, grant_of_wake}
-use Rattle.deneva_base.specs.Latest.{Version, seen}
+use Rattle.deneva_base.specs.Latest.{Version}
 use Rattle.deneva_base.specs.Versions.{below}
 use Rattle.deneva_base.specs.Waiting.{wake_of}
 use Rattle.deneva_base.specs.Mvcc.{top_reader}

@@ -1,5 +1,5 @@
 -- A change at one key of a hash table, as what the tables have there.
-use Rattle.std.proofs.Common.{◌≡◌, ◌≢◌, ◌⊎◌, List, [], ◌∷◌, map, filter, Bool, true, false, not, ◌||◌, cond, Option, Some, None, option_map, refl, ap, ⊎_elim, ◌∙◌, true≢false, sym}
+use Rattle.std.proofs.Common.{◌≡◌, ◌≢◌, ◌⊎◌, List, [], ◌∷◌, map, filter, Bool, true, false, not, ◌||◌, cond, Some, option_map, refl, ap, ⊎_elim, ◌∙◌, true≢false, sym}
 use Rattle.std.specs.List.{list_any}
 use Rattle.std.specs.Map.{lookup}
 use Rattle.deneva_base.specs.declared.keys.Key.{Key}
@@ -10,7 +10,7 @@ use Rattle.chain_control.specs.declared.parts.Part.{Part}
 use Rattle.chain_control.specs.Holdings.{holding_of, holding_in}
 use Rattle.row_store.proofs.Tables.{same_key-key_eq}
 use Rattle.chain_control.specs.declared.line.Line.{Line}
-use Rattle.chain_control.specs.Chains.{Chain, chain_of}
+use Rattle.chain_control.specs.Chains.{chain_of}
 use Rattle.chain_control.specs.Tables.{same_key, no_one}
 
 pub same_tells : (a b : Key) → ((same_key a b ≡ true) × (a ≡ b)) ⊎ ((same_key a b ≡ false) × (a ≢ b))

@@ -1,5 +1,5 @@
 -- The table tracks the history with one more Prepare, and where a call has changed nothing that counts.
-use Rattle.std.proofs.Common.{◌≡◌, ◌⊎◌, ℕ, ◌≤◌, ◌+◌, List, [], ◌∷◌, Bool, true, false, not, cond, refl, sym, ap, ◌∙◌, subst, inl, inr, ⊎_elim, arith, Option, Some, None, option_map, true≢false}
+use Rattle.std.proofs.Common.{◌≡◌, ◌⊎◌, ℕ, ◌≤◌, List, ◌∷◌, Bool, true, false, not, refl, sym, ap, ◌∙◌, subst, inl, inr, ⊎_elim, arith, Option, Some, None, option_map, true≢false}
 use Rattle.std.specs.FinMap.{get}
 use Rattle.deneva_base.specs.declared.keys.Key.{Key}
 use Rattle.deneva_base.specs.declared.numbers.Attempt.{Attempt}
@@ -9,15 +9,13 @@ use Rattle.deneva_base.specs.declared.answers.Vote.TheVariants.{Yes}
 use Rattle.deneva_base.specs.Lists.{IsIn}
 use Rattle.deneva_base.specs.Rows.{Rows}
 use Rattle.deneva_base.specs.Conditions.{MayPrepare}
-use Rattle.deneva_base.specs.History.{Prepare, History, yeas, IsUnended}
-use Rattle.deneva_base.specs.Latest.{writes_in, has_ended}
+use Rattle.deneva_base.specs.History.{Prepare, History, IsUnended}
+use Rattle.deneva_base.specs.Latest.{has_ended}
 use Rattle.deneva_base.proofs.Words.{attempt_tells, not_ended}
 use Rattle.row_store.specs.declared.versions.Version.{Version as StoredVersion}
 use Rattle.row_store.specs.Stores.{version_at}
-use Rattle.control_core.proofs.Lasts.{appends_in}
 use Rattle.chain_control.specs.declared.table.Table.{Table}
 use Rattle.chain_control.specs.Chains.{Chain}
-use Rattle.chain_control.specs.Tables.{opened_in}
 use Rattle.chain_control.specs.Holdings.{Holding, holding_at, with_rows}
 use Rattle.chain_control.specs.Changes.{Opens, Stays, Promises, MayReserve, MayNote, opened_with}
 use Rattle.chain_control.specs.Standing.{State, state_of, requests_in, links_in, floor_in, owner_of, waiter_of, IsOwner, IsWaiter, StampsRise, Rising, Tracks, Keeps, version_of}

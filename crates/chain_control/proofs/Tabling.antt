@@ -1,7 +1,6 @@
 -- What is kept of a key after a change for each of a list.
-use Rattle.std.proofs.Common.{◌≡◌, ◌≢◌, ◌⊎◌, ℕ, List, [], ◌∷◌, ◌++◌, map, filter, Bool, true, false, not, ◌||◌, cond, refl, sym, ap, ◌∙◌, subst, inl, inr, ⊎_elim, arith, Option, Some, None, option_map, true≢false}
+use Rattle.std.proofs.Common.{◌≡◌, ◌≢◌, ℕ, List, [], ◌∷◌, map, filter, Bool, true, false, not, ◌||◌, cond, refl, sym, ap, ◌∙◌, inl, inr, ⊎_elim, arith, Option, Some, None, option_map, true≢false}
 use Rattle.std.proofs.lemmas.Bool.Decides.{nat_tests}
-use Rattle.std.specs.List.{list_any}
 use Rattle.deneva_base.specs.declared.keys.Key.{Key}
 use Rattle.deneva_base.specs.declared.numbers.Attempt.{Attempt}
 use Rattle.deneva_base.specs.declared.numbers.Number.{Number}
@@ -10,14 +9,14 @@ use Rattle.deneva_base.specs.declared.rows.Cell.{Cell}
 use Rattle.deneva_base.specs.Lists.{IsIn}
 use Rattle.deneva_base.specs.Keys.{key_eq, key_lt, attempt_eq}
 use Rattle.deneva_base.specs.Latest.{row_for}
-use Rattle.deneva_base.proofs.Words.{key_tells, attempt_tells, any_at, any_found}
+use Rattle.deneva_base.proofs.Words.{key_tells}
 use Rattle.chain_control.specs.declared.requests.Request.{Request}
 use Rattle.chain_control.specs.declared.requests.Waiter.{Waiter}
 use Rattle.chain_control.specs.declared.links.Link.{Link}
 use Rattle.chain_control.specs.Requests.{has_request, overtaken, grants_to}
 use Rattle.chain_control.specs.Links.{read_by}
-use Rattle.chain_control.specs.Chains.{Chain, without, overwritten, committed, granted, trimmed}
-use Rattle.chain_control.specs.Tables.{same_key, changed, key_of, row_key, waiter_key, commits_at, ends_at, wakes_at, trims_at}
+use Rattle.chain_control.specs.Chains.{Chain, overwritten, committed, granted, trimmed}
+use Rattle.chain_control.specs.Tables.{same_key, changed, key_of, row_key, waiter_key, commits_at, wakes_at, trims_at}
 use Rattle.chain_control.specs.Changes.{commits_left}
 use Rattle.chain_control.specs.Standing.{requests_in, Rising}
 use Rattle.chain_control.proofs.Places.{same_tells}

@@ -1,5 +1,5 @@
 -- The versions of the history after an end are those that the table keeps.
-use Rattle.std.proofs.Common.{◌≡◌, ◌≢◌, ◌⊎◌, ℕ, max, ◌+◌, ◌≤◌, leb, eqb, List, [], ◌∷◌, ◌++◌, map, filter, reverse, length, Bool, true, false, not, ◌&&◌, ◌||◌, cond, ltb, refl, sym, ap, ap₂, ◌∙◌, subst, inl, inr, ⊎_elim, arith, Option, Some, None, true≢false}
+use Rattle.std.proofs.Common.{◌≡◌, ◌≢◌, ◌⊎◌, ℕ, max, ◌≤◌, leb, eqb, List, [], ◌∷◌, ◌++◌, map, filter, reverse, length, Bool, true, false, not, ◌&&◌, ◌||◌, cond, ltb, refl, sym, ap, ap₂, ◌∙◌, subst, inl, inr, ⊎_elim, arith, Option, Some, None, true≢false}
 use Rattle.std.proofs.lemmas.Bool.{leb-true}
 use Rattle.std.proofs.lemmas.List.{append-nil}
 use Rattle.std.proofs.lemmas.List.Elements.{filter-append}
@@ -11,7 +11,7 @@ use Rattle.deneva_base.specs.declared.answers.Wake.{Wake}
 use Rattle.deneva_base.specs.Lists.{IsIn, greatest_by}
 use Rattle.deneva_base.specs.Rows.{Row, Rows}
 use Rattle.deneva_base.specs.Keys.{key_eq, number_lt, number_eq}
-use Rattle.deneva_base.specs.Modes.{reads, IsReading}
+use Rattle.deneva_base.specs.Modes.{reads}
 use Rattle.deneva_base.specs.History.{History, Asked, Grant, grants, waits, yeas, is_woken, Writes}
 use Rattle.deneva_base.specs.Latest.{Version, row_for, writes_in}
 use Rattle.deneva_base.specs.Rules.{Obeys}
@@ -23,16 +23,16 @@ use Rattle.deneva_base.proofs.Mvccs.{stamping}
 use Rattle.deneva_base.proofs.Stamping.{wakes_law, state}
 use Rattle.chain_control.specs.declared.requests.Request.{Request}
 use Rattle.chain_control.specs.declared.links.Link.{Link}
-use Rattle.chain_control.specs.Requests.{awaits, awaits_with}
+use Rattle.chain_control.specs.Requests.{awaits}
 use Rattle.chain_control.specs.Links.{as_great, floor_of}
 use Rattle.chain_control.specs.Chains.{unread}
 use Rattle.chain_control.specs.Kept.{in_order, awaited, is_kept, kept}
 use Rattle.chain_control.specs.Standing.{State, requests_in, link_of, waiter_of, IsOwner, IsWaiter, Tracks}
 use Rattle.chain_control.proofs.Lists.{map_same, filter_same}
 use Rattle.chain_control.proofs.Apart.{Apart, apart_versions, written_late, more_below, one_n, number_eq_sym}
-use Rattle.chain_control.proofs.Floors.{greatest_both, count_append, reverse-cons, nth_order, nth_part, floor_more, in_versions}
-use Rattle.chain_control.proofs.Bests.{or_left, or_right, floor_keeps}
-use Rattle.chain_control.proofs.Answering.{bool_both, length_filter}
+use Rattle.chain_control.proofs.Floors.{count_append, reverse-cons, nth_order, nth_part, floor_more, in_versions}
+use Rattle.chain_control.proofs.Bests.{or_right, floor_keeps}
+use Rattle.chain_control.proofs.Answering.{bool_both}
 use Rattle.chain_control.proofs.Marking.{greatest_map}
 
 -- what a commit adds to the versions of a key

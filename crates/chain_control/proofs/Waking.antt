@@ -4,7 +4,6 @@ use Rattle.std.specs.List.{list_any}
 use Rattle.deneva_base.specs.declared.keys.Key.{Key}
 use Rattle.deneva_base.specs.declared.numbers.Attempt.{Attempt}
 use Rattle.deneva_base.specs.declared.numbers.Number.{Number}
-use Rattle.deneva_base.specs.declared.answers.Wake.{Wake}
 use Rattle.deneva_base.specs.Lists.{IsIn, insert, sort}
 use Rattle.deneva_base.specs.Rows.{Rows}
 use Rattle.deneva_base.specs.Keys.{attempt_eq}

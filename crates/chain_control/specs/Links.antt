@@ -1,5 +1,5 @@
 -- The kept versions of one key as a list, the oldest first.
-use Rattle.std.specs.Prelude.{ℕ, max, List, [], ◌∷◌, filter, length, Bool, not, ◌&&◌, cond, ltb, leb, eqb, Option, Some, None}
+use Rattle.std.specs.Prelude.{ℕ, max, List, [], ◌∷◌, filter, length, not, cond, ltb, leb, eqb, Option, Some, None}
 use Rattle.deneva_base.specs.declared.numbers.Number.{Number}
 use Rattle.deneva_base.specs.Keys.{number_lt, number_eq}
 use Rattle.deneva_base.specs.Lists.{greatest_by}

@@ -120,18 +120,14 @@ pub(crate) fn is_awaited(requests: &[Request], number: Number) -> bool
 pub(crate) fn is_stopped(requests: &[Request], low: u64, stamp: u64) -> bool
     ensures { result ≡ is_stopped low stamp requests.now }
 {
-    requests
-        .iter()
-        .any(|request| request.waits.is_none() && request.stands_between(low, stamp))
+    requests.iter().any(|request| request.waits.is_none() && request.stands_between(low, stamp))
 }
 
 /// Whether any access writes there, other than that of the attempt that ends.
 fn is_barred(requests: &[Request], ended: Attempt, low: u64, stamp: u64) -> bool
     ensures { result ≡ is_barred ended low stamp requests.now }
 {
-    requests
-        .iter()
-        .any(|request| request.who != ended && request.stands_between(low, stamp))
+    requests.iter().any(|request| request.who != ended && request.stands_between(low, stamp))
 }
 
 /// Whether a request waits that is to be granted when an attempt ends, which wrote the key where there is a number.

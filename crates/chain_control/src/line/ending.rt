@@ -96,7 +96,6 @@ impl Line {
     {
         let floor = self.floor;
         let requests = &self.requests;
-        self.links
-            .retain(|link| link.number.n >= floor || is_awaited(requests, link.number));
+        self.links.retain(|link| link.number.n >= floor || is_awaited(requests, link.number));
     }
 }

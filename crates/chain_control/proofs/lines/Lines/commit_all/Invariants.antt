@@ -1,4 +1,4 @@
-use Rattle.std.proofs.Common.{◌≡◌, drop}
+use Rattle.std.proofs.Common.{◌≡◌}
 use Rattle.deneva_base.specs.declared.keys.Key.{Key}
 use Rattle.chain_control.specs.Tables.{changed, row_key, commits_at, chain_at}
 use Rattle.chain_control.proofs.lines.Lines.commit_all.Given as goal
