@@ -81,7 +81,7 @@ impl Attempting {
         if access.mode.is_reading() {
             self.rows.push(Keyed {
                 key: access.key,
-                row: row.copy(alloc)?,
+                row: row.share()?,
             })?;
         }
         self.bound = greater_bound(self.bound, bound, key, self.granted == 0);

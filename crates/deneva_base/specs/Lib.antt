@@ -27,3 +27,4 @@ pub mod Growth
 pub mod Naming
 pub mod Protocols
 pub mod Leaving
+pub mod Shared

@@ -18,8 +18,8 @@ fn row_of(alloc: Global, rows: &BTreeMap<Key, Row>, key: Key) -> Result<Row, NoM
     ensures { IfOk result (λ row. row ≡ row_at (rows_in rows.now.entries) key) }
 {
     match rows.get(&key) {
-        Some(row) => row.copy(alloc),
-        None => Ok(Row::new(alloc)),
+        Some(row) => row.share(),
+        None => Ok(Row::empty()),
     }
 }
 

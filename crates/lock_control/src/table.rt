@@ -54,10 +54,10 @@ impl Table {
     {
         let alloc = self.store.allocator();
         match self.store.version(key) {
-            Some(version) if mode.is_reading() => Ok((version.row.copy(alloc)?, version.number)),
+            Some(version) if mode.is_reading() => Ok((version.row.share()?, version.number)),
             _ => {
                 let number = Number { n: 0, id: TxnId(0) };
-                Ok((Row::new(alloc), number))
+                Ok((Row::empty(), number))
             }
         }
     }
@@ -162,7 +162,7 @@ impl Table {
     {
         match (number, find_row(rows, key)) {
             (Some(number), Some(row)) if mode.is_reading() && self.comes_after(key, number) => {
-                Ok((row.copy(self.store.allocator())?, number))
+                Ok((row.share()?, number))
             }
             _ => self.read(key, mode),
         }

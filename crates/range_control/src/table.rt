@@ -54,10 +54,10 @@ impl Table {
     {
         let alloc = self.store.allocator();
         match self.store.version(key) {
-            Some(version) if mode.is_reading() => Ok((version.row.copy(alloc)?, version.number)),
+            Some(version) if mode.is_reading() => Ok((version.row.share()?, version.number)),
             _ => {
                 let number = Number { n: 0, id: TxnId(0) };
-                Ok((Row::new(alloc), number))
+                Ok((Row::empty(), number))
             }
         }
     }

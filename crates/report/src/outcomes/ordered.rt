@@ -70,8 +70,8 @@ fn row_at(alloc: Global, rows: &[Keyed], key: Key) -> Result<Row, NoMemory>
     ensures { IfOk result (λ row. row ≡ base_rows.row_at rows.now key) }
 {
     match rows {
-        [] => Ok(Row::new(alloc)),
-        [keyed, ..] if keyed.key == key => keyed.row.copy(alloc),
+        [] => Ok(Row::empty()),
+        [keyed, ..] if keyed.key == key => keyed.row.share(),
         [_, rest @ ..] => row_at(alloc, rest, key),
     }
 }
