@@ -1,8 +1,8 @@
 //! The plain body: a list of all accesses that were ever asked for, which each call scans.
 
 use deneva_base::{
-    Answer, Attempt, Cause, Cell, CellList, Key, Keyed, Mode, NoMemory, Number, Row, RowList, TxnId,
-    Vote, Wake, Woken,
+    Answer, Attempt, Cause, Cell, CellList, Key, Keyed, Mode, NoMemory, Number, Row, RowList,
+    TxnId, Vote, Wake, Woken,
 };
 use std::alloc::Global;
 

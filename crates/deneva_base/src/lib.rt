@@ -39,6 +39,7 @@ pub type CountList = Items<u32>;
 /// The cells of a row, in the order of its table's columns. What a row holds stands in memory once, however many reads,
 /// messages and versions show it.
 pub type Row = Shared<Cell>;
+
 pub type RowList = Items<Keyed>;
 
 pub type AccessList = Items<Access>;

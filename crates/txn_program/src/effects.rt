@@ -67,7 +67,10 @@ fn write_of(alloc: Global, rows: &[Keyed], step: &YcsbStep) -> Result<Option<Key
         YcsbAct::Read => return Ok(None),
         YcsbAct::Update(put) => {
             let text = put.text.copy(alloc)?;
-            Row::of(alloc, with_text(alloc, cells_of(rows, key), put.field, text)?)?
+            Row::of(
+                alloc,
+                with_text(alloc, cells_of(rows, key), put.field, text)?,
+            )?
         }
         YcsbAct::Put(row) => row.share()?,
     };
