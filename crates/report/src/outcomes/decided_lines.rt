@@ -5,7 +5,7 @@ ghost use Rattle.server_core.specs.Ends.{attempt};
 ghost use Rattle.server_core.specs.Outcome as outcome;
 ghost use Rattle.server_core.specs.declared.messages.Entry as messages;
 ghost use Rattle.report.specs.ByTransaction.{lines_for};
-ghost use Rattle.report.specs.Rereads.{reply_of};
+ghost use Rattle.report.specs.GrantedRows.{reply_of};
 ghost use Rattle.report.specs.Stories.{Tells, setting_of};
 
 use crate::outcomes::replies::grants_for;
