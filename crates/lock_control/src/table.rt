@@ -52,7 +52,6 @@ impl Table {
     pub fn read(&self, key: Key, mode: Mode) -> Result<(Row, Number), NoMemory>
         ensures { IfOk result (λ r. r ≡ read_in mode (version_at self.now.store key)) }
     {
-        let alloc = self.store.allocator();
         match self.store.version(key) {
             Some(version) if mode.is_reading() => Ok((version.row.share()?, version.number)),
             _ => {
