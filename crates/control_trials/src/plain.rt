@@ -114,7 +114,7 @@ impl Plain {
     fn read(&self, alloc: Global, key: Key, mode: Mode) -> Result<(Row, Number), NoMemory> {
         let mut version = Number { n: 0, id: TxnId(0) };
         if !mode.is_reading() {
-            return Ok((Row::empty(), version));
+            return Ok((Row::empty(alloc)?, version));
         }
         for access in &self.accesses {
             if let Some(n) = access.ended {

@@ -27,4 +27,3 @@ pub mod Growth
 pub mod Naming
 pub mod Protocols
 pub mod Leaving
-pub mod Shared

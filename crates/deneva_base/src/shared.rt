@@ -13,34 +13,23 @@ use std::sync::Arc;
 /// A list that does not change, and that all its copies share, in any threads. Contracts see it as the list of its items.
 #[derive(Debug, Drop)]
 pub struct Shared<T> {
-    // The empty list needs no memory.
-    items: Option<Arc<Items<T>>>,
+    items: Arc<Items<T>>,
 }
 
 impl<T> Model for Shared<T> {
     ghost use Rattle.std.specs.Prelude.{List};
-    ghost use Rattle.deneva_base.specs.Shared.{items_in};
+    ghost use Rattle.std.specs.Arc.{arc_value};
 
     ghost Value = { List T };
 
-    ghost view = { λ a. items_in a.items };
+    ghost view = { λ a. arc_value a.items };
 }
 
 impl<T> Shared<T> {
-    /// The empty list. It takes no memory.
-    pub fn empty() -> Shared<T>
-        ensures { result ≡ [] }
-    {
-        Shared { items: None }
-    }
-
     pub fn as_slice(&self) -> &[T]
         ensures { result.now ≡ self.now }
     {
-        match &self.items {
-            Some(items) => items.as_slice(),
-            None => &[],
-        }
+        self.items.as_slice()
     }
 
     pub fn len(&self) -> usize
@@ -51,22 +40,26 @@ impl<T> Shared<T> {
 }
 
 impl<T: Drop> Shared<T> {
+    /// The empty list.
+    pub fn empty(alloc: Global) -> Result<Shared<T>, NoMemory>
+        ensures { IfOk result (λ s. s ≡ []) }
+    {
+        Shared::of(alloc, Items::new(alloc))
+    }
+
     /// The list of these items.
     pub fn of(alloc: Global, items: Items<T>) -> Result<Shared<T>, NoMemory>
         ensures { IfOk result (λ s. s ≡ items) }
     {
         let items = Arc::new(alloc, items)?;
-        Ok(Shared { items: Some(items) })
+        Ok(Shared { items })
     }
 
     /// The list once more, with the same items in memory. It takes none; the error comes where 2^63 lists share them.
     pub fn share(&self) -> Result<Shared<T>, NoMemory>
         ensures { IfOk result (λ s. s ≡ self.now) }
     {
-        let items = match &self.items {
-            Some(items) => Some(Arc::try_clone(items)?),
-            None => None,
-        };
+        let items = Arc::try_clone(&self.items)?;
         Ok(Shared { items })
     }
 }

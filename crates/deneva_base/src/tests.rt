@@ -43,7 +43,7 @@ fn copies_are_equal(rt: HostRuntime) -> Result<(), Fail> {
     cells.push(Cell::Num(-5))?;
     cells.push(Cell::Text(ByteList::from_bytes(rt.alloc(), b"x")?))?;
     let row = Row::of(rt.alloc(), cells)?;
-    assert_eq!(rt; Row::empty().len(), 0);
+    assert_eq!(rt; Row::empty(rt.alloc())?.len(), 0);
     let keyed = Keyed { key: ycsb(3), row };
     let copy = keyed.copied(rt.alloc())?;
     assert_eq!(rt; copy.key, ycsb(3));

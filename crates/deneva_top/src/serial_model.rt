@@ -14,12 +14,12 @@ use txn_program::{
 };
 
 /// The row of a key, or a row of no cells where the key is absent.
-fn row_of(rows: &BTreeMap<Key, Row>, key: Key) -> Result<Row, NoMemory>
+fn row_of(alloc: Global, rows: &BTreeMap<Key, Row>, key: Key) -> Result<Row, NoMemory>
     ensures { IfOk result (λ row. row ≡ row_at (rows_in rows.now.entries) key) }
 {
     match rows.get(&key) {
         Some(row) => row.share(),
-        None => Ok(Row::empty()),
+        None => Row::empty(alloc),
     }
 }
 
@@ -34,7 +34,7 @@ fn read_rows(
     let mut reads = RowList::with_capacity(alloc, accesses.len())?;
     for access in accesses {
         if access.mode.is_reading() {
-            let row = row_of(rows, access.key)?;
+            let row = row_of(alloc, rows, access.key)?;
             reads.push(Keyed {
                 key: access.key,
                 row,

@@ -56,7 +56,7 @@ impl Table {
             Some(version) if mode.is_reading() => Ok((version.row.share()?, version.number)),
             _ => {
                 let number = Number { n: 0, id: TxnId(0) };
-                Ok((Row::empty(), number))
+                Ok((Row::empty(self.store.allocator())?, number))
             }
         }
     }

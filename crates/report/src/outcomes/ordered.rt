@@ -66,13 +66,13 @@ fn rows_from<'h>(id: TxnId, part: u8, messages: &[&'h Msg]) -> &'h [Keyed]
 }
 
 /// The row of a key, and a row of no cells where the key is absent.
-fn row_at(rows: &[Keyed], key: Key) -> Result<Row, NoMemory>
+fn row_at(alloc: Global, rows: &[Keyed], key: Key) -> Result<Row, NoMemory>
     ensures { IfOk result (λ row. row ≡ base_rows.row_at rows.now key) }
 {
     match rows {
-        [] => Ok(Row::empty()),
+        [] => Row::empty(alloc),
         [keyed, ..] if keyed.key == key => keyed.row.share(),
-        [_, rest @ ..] => row_at(rest, key),
+        [_, rest @ ..] => row_at(alloc, rest, key),
     }
 }
 
@@ -91,7 +91,7 @@ fn collected(
         if access.mode.is_reading() {
             let key = access.key;
             let rows = rows_from(id, part_of(key, run.config.parts), messages);
-            let row = row_at(rows, key)?;
+            let row = row_at(run.alloc, rows, key)?;
             reads.push(Keyed { key, row })?;
         }
     }
