@@ -2,7 +2,7 @@ use Rattle.std.proofs.Common.{drop}
 use Rattle.deneva_base.specs.History.{History}
 use Rattle.deneva_base.specs.Rows.{Rows}
 use Rattle.control_trials.specs.Trials.{Allowed}
-use Rattle.control_trials.proofs.steps.agree.Given as goal
+use Rattle.control_trials.proofs.steps.said_to.Given as goal
 
 -- the calls that are left are allowed
 abbrev pub invariant-loop-step : goal.invariant-loop-step
