@@ -1,2 +1,5 @@
 pub mod Places
 pub mod Steps
+pub mod Puts
+pub mod Asking
+pub mod Ending

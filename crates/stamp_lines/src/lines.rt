@@ -1,5 +1,5 @@
 //! The requests for each key.
-ghost use Rattle.std.specs.Prelude.{◌≡◌, OnOk, OnErr};
+ghost use Rattle.std.specs.Prelude.{◌≡◌, [], OnOk, OnErr};
 ghost use Rattle.deneva_base.specs.declared.keys.Key.{Key};
 ghost use Rattle.stamp_lines.specs.Requests.{is_stopped, first_writer, put_request, without, granted};
 ghost use Rattle.stamp_lines.specs.Tables.{line_at, all_ended, all_granted, SetsLine, SameLines};
