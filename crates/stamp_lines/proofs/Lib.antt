@@ -3,3 +3,4 @@ pub mod Steps
 pub mod Puts
 pub mod Asking
 pub mod Ending
+pub mod Fronts
