@@ -1,5 +1,5 @@
 -- The accesses track the history with one more Ask.
-use Rattle.std.proofs.Common.{◌≡◌, ◌≢◌, ◌⊎◌, ℕ, ◌+◌, List, ◌∷◌, Bool, true, false, cond, refl, sym, ap, ◌∙◌, subst, inl, inr, ⊎_elim, arith}
+use Rattle.std.proofs.Common.{◌≡◌, ◌≢◌, ◌⊎◌, ℕ, ◌+◌, List, ◌∷◌, true, false, cond, refl, sym, ap, ◌∙◌, subst, inl, inr, ⊎_elim, arith}
 use Rattle.deneva_base.specs.declared.keys.Key.{Key}
 use Rattle.deneva_base.specs.declared.keys.Mode.{Mode}
 use Rattle.deneva_base.specs.declared.numbers.Attempt.{Attempt}
@@ -9,7 +9,7 @@ use Rattle.deneva_base.specs.declared.answers.Answer.TheVariants.{Granted, Waits
 use Rattle.deneva_base.specs.Lists.{IsIn}
 use Rattle.deneva_base.specs.Rows.{Row, Rows}
 use Rattle.deneva_base.specs.Conditions.{MayAsk}
-use Rattle.deneva_base.specs.History.{Ask, History, Asked, Grant, asks, grants, waits, ended, IsUnended}
+use Rattle.deneva_base.specs.History.{Ask, History, Asked, Grant, asks, IsUnended}
 use Rattle.deneva_base.specs.Keys.{attempt_eq}
 use Rattle.deneva_base.proofs.Words.{attempt_tells}
 use Rattle.deneva_base.proofs.Known.{Known}

@@ -1,5 +1,5 @@
 -- Whom the requests of a key stop, and whom the end of an attempt wakes, as the requests show it.
-use Rattle.std.proofs.Common.{◌≡◌, ◌≢◌, ◌⊎◌, ℕ, ◌<◌, ltb, leb, List, [], ◌∷◌, ◌++◌, map, filter, Bool, true, false, not, ◌&&◌, ◌||◌, cond, refl, sym, ap, ap₂, ◌∙◌, subst, inl, inr, ⊎_elim, arith, true≢false, Option, Some, None}
+use Rattle.std.proofs.Common.{◌≡◌, ◌≢◌, ◌⊎◌, ℕ, ◌<◌, ltb, leb, List, [], ◌∷◌, ◌++◌, filter, Bool, true, false, not, ◌&&◌, ◌||◌, cond, refl, sym, ap, ◌∙◌, subst, inl, inr, ⊎_elim, arith, true≢false, Some}
 use Rattle.std.proofs.lemmas.Bool.{ltb-true, lt-ltb, false_from_ne_true}
 use Rattle.std.proofs.lemmas.Bool.Decides.{nat_tests}
 use Rattle.std.specs.List.{list_any}
@@ -9,8 +9,7 @@ use Rattle.deneva_base.specs.Lists.{IsIn, sort}
 use Rattle.deneva_base.specs.Rows.{Rows}
 use Rattle.deneva_base.specs.Keys.{key_eq, key_lt, attempt_eq}
 use Rattle.deneva_base.specs.Modes.{writes}
-use Rattle.deneva_base.specs.History.{History, Asked, Grant, grants, waits, ended, IsUnended}
-use Rattle.deneva_base.specs.Latest.{has_ended}
+use Rattle.deneva_base.specs.History.{History, Asked, grants, waits, IsUnended}
 use Rattle.deneva_base.specs.Order.{Sorted, by_rising_stamp}
 use Rattle.deneva_base.specs.Waiting.{as_asked, holders, older_writer}
 use Rattle.deneva_base.proofs.Words.{in_cases, in_left, in_right, in_filter, filter_in, any_tells, any_at, and_true, and_parts, key_tells, key_decides, attempt_tells}

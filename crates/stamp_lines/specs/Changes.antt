@@ -1,5 +1,5 @@
 -- What the calls change.
-use Rattle.std.specs.Prelude.{◌≡◌, ℕ, ◌+◌, List, [], length, cond}
+use Rattle.std.specs.Prelude.{◌≡◌, ◌+◌, List, [], length, cond}
 use Rattle.deneva_base.specs.declared.keys.Key.{Key}
 use Rattle.deneva_base.specs.declared.numbers.Attempt.{Attempt}
 use Rattle.deneva_base.specs.declared.rows.Keyed.{Keyed}

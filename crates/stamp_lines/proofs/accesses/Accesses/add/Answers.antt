@@ -1,8 +1,5 @@
-use Rattle.std.proofs.Common.{◌≡◌, List, sym, ap, ◌∙◌, cond, refl, ⊎_elim}
-use Rattle.deneva_base.specs.declared.keys.Key.{Key}
-use Rattle.stamp_lines.specs.declared.requests.Request.{Request}
-use Rattle.stamp_lines.specs.Requests.{put_request, without}
-use Rattle.stamp_lines.specs.Tables.{same_key, line_at}
+use Rattle.std.proofs.Common.{refl}
+use Rattle.stamp_lines.specs.Tables.{line_at}
 use Rattle.stamp_lines.proofs.Puts.{undone}
 use Rattle.stamp_lines.proofs.accesses.Accesses.add.Goals as goal
 
