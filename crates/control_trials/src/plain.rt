@@ -1,8 +1,8 @@
 //! The plain body: a list of all accesses that were ever asked for, which each call scans.
 
 use deneva_base::{
-    Answer, Attempt, Cause, Cell, Key, Keyed, Mode, NoMemory, Number, Row, RowList, TxnId, Vote,
-    Wake, Woken,
+    Answer, Attempt, Cause, Cell, CellList, Key, Keyed, Mode, NoMemory, Number, Row, RowList,
+    TxnId, Vote, Wake, Woken,
 };
 use std::alloc::Global;
 
@@ -112,10 +112,9 @@ impl Plain {
 
     /// What an access reads: the row of the greatest committed write, which has no cells, or the loaded one.
     fn read(&self, alloc: Global, key: Key, mode: Mode) -> Result<(Row, Number), NoMemory> {
-        let mut row = Row::new(alloc);
         let mut version = Number { n: 0, id: TxnId(0) };
         if !mode.is_reading() {
-            return Ok((row, version));
+            return Ok((Row::empty(alloc)?, version));
         }
         for access in &self.accesses {
             if let Some(n) = access.ended {
@@ -128,10 +127,11 @@ impl Plain {
                 }
             }
         }
+        let mut cells = CellList::new(alloc);
         if version.n == 0 {
-            row.push(Cell::Num(100 + key.a as i64))?;
+            cells.push(Cell::Num(100 + key.a as i64))?;
         }
-        Ok((row, version))
+        Ok((Row::of(alloc, cells)?, version))
     }
 
     /// The rows in key order.

@@ -47,7 +47,7 @@ fn empty_row(alloc: Global, a: u32) -> Result<RowList, NoMemory>
     ensures { IfOk result (λ rows. rows ≡ empty_row a ∷ []) }
 {
     let mut rows = RowList::new(alloc);
-    let row = Row::new(alloc);
+    let row = Row::empty(alloc)?;
     rows.push(Keyed { key: key(a), row })?;
     Ok(rows)
 }

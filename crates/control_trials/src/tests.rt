@@ -2,7 +2,7 @@
 
 use super::*;
 use control_core::Control;
-use deneva_base::{Answer, Attempt, Cell, Key, Mode, Number, Row, TxnId, Wake, Woken};
+use deneva_base::{Answer, Attempt, Cell, CellList, Key, Mode, Number, Row, TxnId, Wake, Woken};
 use lock_control::Locks;
 use std::test::Fail;
 
@@ -161,8 +161,9 @@ fn the_plain_body_lets_the_older_wait(rt: HostRuntime) -> Result<(), Fail> {
     }
     let mut woken = Woken::new(alloc);
     assert!(rt; plain.end(alloc, first_of(1), None, &woken)?);
-    let mut row = Row::new(alloc);
-    row.push(Cell::Num(100))?;
+    let mut cells = CellList::new(alloc);
+    cells.push(Cell::Num(100))?;
+    let row = Row::of(alloc, cells)?;
     woken.push(Wake {
         who: first_of(2),
         key,

@@ -6,7 +6,7 @@ use std::alloc::Global;
 use std::test::Fail;
 
 /// The words of the protocols that have nodes.
-const PROTOCOLS: [&str; 2] = ["nowait", "waitdie"];
+const PROTOCOLS: [&str; 3] = ["nowait", "waitdie", "maat"];
 
 const ROOM: usize = 10_000;
 
@@ -147,6 +147,26 @@ fn waits_under_wait_die(rt: HostRuntime) -> Result<(), Fail> {
 }
 
 #[test]
+fn windows_of_maat(rt: HostRuntime) -> Result<(), Fail> {
+    let cases = [
+        // Transaction 3 is prepared at both partitions, at places 24 and 25, while the commit of 2 to partition 1 is in
+        // flight: its votes are [3, 4098] and [1, 1].
+        (
+            "--protocol maat --partitions 2 --order list:0.2.2.2.2.2.2.0.0.0.0.0.0.0.0.0.0.0.2.2.2.2.2.2",
+            "deneva,1,ycsb,1\nrow,1,c\nrow,2,b\nrow,4,a\ntxn,u,4,0,A\ntxn,r,4,r,2,u,1,0,C\ntxn,u,2,0,B,r,1\nend\n",
+            "deneva-report,1,maat,2\ncommit,1,1,0,0\nread,0.4.0.0,a\ncommit,2,2,0,0.1\nread,0.4.0.0,A\nread,0.2.0.0,b\nread,0.1.0.0,c\ncommit,3,3,0,0.1\nread,0.2.0.0,b\nread,0.1.0.0,C\nabort,3,1,29,0,apart,3,0,1,1\nrow,0.1.0.0,C\nrow,0.2.0.0,B\nrow,0.4.0.0,A\nend\n",
+        ),
+        (
+            "--protocol maat",
+            WRITE_SKEW,
+            "deneva-report,1,maat,1\ncommit,1,1,0,0\nread,0.1.0.0,a\nread,0.2.0.0,b\ncommit,2,2,0,0\nread,0.2.0.0,p\nread,0.1.0.0,a\nabort,2,1,11,0,emptyrange,4097,0.1.0.0,0,1.1\nrow,0.1.0.0,q\nrow,0.2.0.0,p\nend\n",
+        ),
+    ];
+    assert_eq!(rt; first_other(rt.alloc(), &cases)?, None);
+    Ok(())
+}
+
+#[test]
 fn several_partitions_and_puts(rt: HostRuntime) -> Result<(), Fail> {
     // Transaction 2 ends while 1 waits to be delivered, and reads nothing of what it puts.
     let puts = "deneva,2,ycsb,1\nrow,1,a\nrow,9,b\ntxn,r,9,p,1,x\ntxn,p,1,y\nend\n";
@@ -173,6 +193,11 @@ fn several_partitions_and_puts(rt: HostRuntime) -> Result<(), Fail> {
             puts,
             "deneva-report,1,waitdie,1\ncommit,1,2,0,0\ncommit,2,1,0,0\nread,0.9.0.0,b\nrow,0.1.0.0,x\nrow,0.9.0.0,b\nend\n",
         ),
+        (
+            "--protocol maat --order list:0.0.1.1.1.1.1.1",
+            puts,
+            "deneva-report,1,maat,1\ncommit,1,2,0,0\ncommit,2,1,0,0\nread,0.9.0.0,b\nrow,0.1.0.0,x\nrow,0.9.0.0,b\nend\n",
+        ),
     ];
     assert_eq!(rt; first_other(rt.alloc(), &cases)?, None);
     Ok(())
@@ -190,7 +215,6 @@ fn words_of_replay_that_are_refused(rt: HostRuntime) -> Result<(), Fail> {
         // There are no nodes for these yet.
         ("--protocol timestamp", 2),
         ("--protocol mvcc", 2),
-        ("--protocol maat", 2),
         ("--protocol calvin", 2),
         ("--partitions 16 --attempts 8 --protocol waitdie", 0),
     ] {

@@ -8,6 +8,7 @@ ghost use Rattle.replay.specs.Replayed.{Replays};
 use deneva_base::{Config, NoMemory, Protocol};
 use lock_control::Locks;
 use node_core::Node;
+use range_control::Ranges;
 use report::outcome_of;
 use server_core::{History, Outcome, Schedule, Server, runs_are_right};
 use std::alloc::Global;
@@ -25,7 +26,10 @@ pub struct Ran {
 pub fn is_built(protocol: Protocol) -> bool
     ensures { result ≡ spec.is_built protocol }
 {
-    matches!(protocol, Protocol::NoWait | Protocol::WaitDie)
+    matches!(
+        protocol,
+        Protocol::NoWait | Protocol::WaitDie | Protocol::Maat
+    )
 }
 
 /// The run of these nodes that a schedule picks.
@@ -64,6 +68,7 @@ pub fn replay(
     match config.protocol {
         Protocol::NoWait => run_in::<Node<Locks<0>>>(alloc, config, work, schedule),
         Protocol::WaitDie => run_in::<Node<Locks<1>>>(alloc, config, work, schedule),
-        Protocol::Timestamp | Protocol::Mvcc | Protocol::Maat | Protocol::Calvin => unreachable!(),
+        Protocol::Maat => run_in::<Node<Ranges<4096>>>(alloc, config, work, schedule),
+        Protocol::Timestamp | Protocol::Mvcc | Protocol::Calvin => unreachable!(),
     }
 }

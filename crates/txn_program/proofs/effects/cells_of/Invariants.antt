@@ -1,6 +1,6 @@
 use Rattle.std.proofs.Common.{◌≡◌, drop}
 use Rattle.deneva_base.specs.Rows.{row_at}
-use Rattle.txn_program.proofs.effects.row_of.Given as goal
+use Rattle.txn_program.proofs.effects.cells_of.Given as goal
 
 -- the row is in what is left
 abbrev pub invariant-loop-keyed : goal.invariant-loop-keyed

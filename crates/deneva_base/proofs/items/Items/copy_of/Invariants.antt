@@ -1,6 +1,6 @@
 use Rattle.std.proofs.Common.{◌≡◌, take}
-use Rattle.deneva_base.proofs.items.Items.copy.Given as goal
+use Rattle.deneva_base.proofs.items.Items.copy_of.Given as goal
 
 -- the items so far are copied
 abbrev pub invariant-loop-item : goal.invariant-loop-item
-invariant-loop-item g l = l.items.items ≡ take l.item-index l.item-items
+invariant-loop-item g l = l.copies.items ≡ take l.item-index l.items
