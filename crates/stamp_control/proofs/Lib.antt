@@ -1,3 +1,5 @@
 pub mod Places
 pub mod Picks
 pub mod Trims
+pub mod Idle
+pub mod Keeping

@@ -7,7 +7,7 @@ use Rattle.stamp_lines.specs.Tables.{same_key}
 use Rattle.stamp_lines.proofs.Places.{same_tells}
 use Rattle.stamp_lines.specs.declared.lines.Waiter.{Waiter}
 use Rattle.stamp_control.specs.declared.pasts.Past.{Past}
-use Rattle.stamp_control.specs.Pasts.{Kept, past_of, past_in, no_past, read_by, raised_by, Wider}
+use Rattle.stamp_control.specs.Pasts.{Kept, past_of, past_in, no_past, granted_at, all_granted_at, Wider}
 
 pub set_past : (es fs : List (Key × Past)) (key : Key) (new : Past) → ((other : Key) → lookup (same_key other) fs ≡ cond (same_key key other) (Some new) (lookup (same_key other) es)) → (other : Key) → past_in (lookup (same_key other) fs) ≡ cond (same_key key other) (past_of new) (past_in (lookup (same_key other) es))
 set_past es fs key new h other = ap past_in (h other) ∙ go (same_key key other)
@@ -31,7 +31,7 @@ wider_at es fs key new w h other = ⊎_elim
     (same_tells key other)
 
 -- one more access is granted
-pub raise_step : (ws : List Waiter) (i : ℕ) (d : Waiter) (key : Key) (p q : Kept) → i < length ws → q ≡ read_by (get_or ws i d) key p → raised_by (drop (i + 1) ws) key q ≡ raised_by (drop i ws) key p
-raise_step ws i d key p q less e =
+pub grant_step : (ws : List Waiter) (i : ℕ) (d : Waiter) (key : Key) (p q : Kept) → i < length ws → q ≡ granted_at (get_or ws i d).key (get_or ws i d).stamp (get_or ws i d).mode key p → all_granted_at (drop (i + 1) ws) key q ≡ all_granted_at (drop i ws) key p
+grant_step ws i d key p q less e =
     let next : i + 1 ≡ suc i = omega arith in
-    rw next (ap (λ x. raised_by (drop (suc i) ws) key x) e ∙ sym (ap (λ x. raised_by x key p) (drop-cons ws i d less)))
+    rw next (ap (λ x. all_granted_at (drop (suc i) ws) key x) e ∙ sym (ap (λ x. all_granted_at x key p) (drop-cons ws i d less)))

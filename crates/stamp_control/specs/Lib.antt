@@ -1,2 +1,4 @@
 pub mod Picks
 pub mod Pasts
+pub mod Fronts
+pub mod Changes

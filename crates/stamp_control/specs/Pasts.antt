@@ -2,6 +2,9 @@
 use Rattle.std.specs.Prelude.{◌≡◌, ℕ, ◌-◌, ◌≤◌, max, List, [], ◌∷◌, ◌++◌, Bool, true, false, ◌&&◌, cond, Option, Some, None, vec_len, vec_capacity}
 use Rattle.std.specs.Map.{lookup}
 use Rattle.deneva_base.specs.declared.keys.Key.{Key}
+use Rattle.deneva_base.specs.declared.keys.Mode.{Mode}
+use Rattle.deneva_base.specs.declared.numbers.Number.{Number}
+use Rattle.deneva_base.specs.Keys.{number_eq}
 use Rattle.deneva_base.specs.Lists.{IsIn}
 use Rattle.deneva_base.specs.Modes.{reads}
 use Rattle.row_store.specs.declared.versions.Version.{Version}
@@ -36,17 +39,26 @@ past_at t key = past_in (lookup (same_key key) t.pasts.entries)
 abbrev pub with_version : Version → Kept → Kept
 with_version v p = record { read = p.read; versions = p.versions ++ v ∷ []; spare = p.spare - 1; present = p.present }
 
+-- with the latest version, unless it is picked for the stamp already
+abbrev pub is_numbered : Number → Option Version → Bool
+is_numbered number None = false
+is_numbered number (Some v) = number_eq v.number number
+
+abbrev pub with_latest : ℕ → Version → Kept → Kept
+with_latest stamp v p = cond (is_numbered v.number (pick stamp p.versions)) p (with_version v p)
+
 -- once an access of the stamp has read the key
 abbrev pub raised : ℕ → Kept → Kept
 raised stamp p = cond p.present (record { read = max p.read stamp; versions = p.versions; spare = p.spare; present = true }) p
 
--- once an access was granted
-abbrev pub read_by : Waiter → Key → Kept → Kept
-read_by w key p = cond (same_key w.key key && reads w.mode) (raised w.stamp p) p
+-- what is kept of `other` once an access to the key was granted
+abbrev pub granted_at : Key → ℕ → Mode → Key → Kept → Kept
+granted_at key stamp mode other p = cond (same_key key other && reads mode) (raised stamp p) p
 
-abbrev pub raised_by : List Waiter → Key → Kept → Kept
-raised_by [] key p = p
-raised_by (w ∷ ws) key p = raised_by ws key (read_by w key p)
+-- once these were
+abbrev pub all_granted_at : List Waiter → Key → Kept → Kept
+all_granted_at [] key p = p
+all_granted_at (w ∷ ws) key p = all_granted_at ws key (granted_at w.key w.stamp w.mode key p)
 
 -- new has at the key what is said, and at every other key what old has
 abbrev pub SetsPast : Pasts → Key → Kept → Pasts → Type 0

@@ -3,9 +3,9 @@ ghost use Rattle.std.specs.Prelude.{◌≡◌, ◌≢◌, ◌≤◌, [], option_
 ghost use Rattle.deneva_base.specs.declared.keys.Key.{Key};
 ghost use Rattle.stamp_lines.specs.Tables.{requests_at};
 ghost use Rattle.stamp_control.specs.Picks.{newer_than, pick, is_above, is_read, is_needed};
-ghost use Rattle.stamp_control.specs.Pasts.{past_of, past_at, no_past, raised, read_by, raised_by, with_version, Widens, HasRoom, Trims, SetsPast};
+ghost use Rattle.stamp_control.specs.Pasts.{past_of, past_at, no_past, raised, granted_at, all_granted_at, with_version, with_latest, Widens, HasRoom, Trims, SetsPast};
 
-use deneva_base::{Key, NoMemory, Number};
+use deneva_base::{Key, Mode, NoMemory, Number};
 use row_store::Version;
 use stamp_lines::{Accesses, Request, Waiter};
 use std::alloc::Global;
@@ -182,8 +182,22 @@ impl Pasts {
         }
     }
 
+    /// Keeps the latest version of the key for an access of the stamp, unless that one finds it already.
+    pub fn keep_latest(&mut self, key: Key, stamp: u64, version: Version)
+        requires { 1 ≤ (past_at self.old key).spare }
+        ensures { SetsPast self.old key (with_latest stamp version (past_at self.old key)) self.new }
+    {
+        let is_kept = match self.pick(key, stamp) {
+            Some(kept) => kept.number == version.number,
+            None => false,
+        };
+        if !is_kept {
+            self.keep(key, version);
+        }
+    }
+
     /// An access of the stamp has read the key, of which something is kept.
-    pub fn raise(&mut self, key: Key, stamp: u64)
+    fn raise(&mut self, key: Key, stamp: u64)
         ensures { SetsPast self.old key (raised stamp (past_at self.old key)) self.new }
     {
         if let Some(past) = self.pasts.get_mut(&key) {
@@ -192,20 +206,20 @@ impl Pasts {
     }
 
     /// An access was granted: where it reads, it has read its key.
-    fn raise_by(&mut self, waiter: &Waiter)
-        ensures { (key : Key) → past_at self.new key ≡ read_by waiter.now key (past_at self.old key) }
+    pub fn grant(&mut self, key: Key, stamp: u64, mode: Mode)
+        ensures { (other : Key) → past_at self.new other ≡ granted_at key stamp mode other (past_at self.old other) }
     {
-        if waiter.mode.is_reading() {
-            self.raise(waiter.key, waiter.stamp);
+        if mode.is_reading() {
+            self.raise(key, stamp);
         }
     }
 
     /// These accesses were granted.
-    pub fn raise_all(&mut self, waiters: &[Waiter])
-        ensures { (key : Key) → past_at self.new key ≡ raised_by waiters.now key (past_at self.old key) }
+    pub fn grant_all(&mut self, waiters: &[Waiter])
+        ensures { (key : Key) → past_at self.new key ≡ all_granted_at waiters.now key (past_at self.old key) }
     {
         for waiter in waiters {
-            self.raise_by(waiter);
+            self.grant(waiter.key, waiter.stamp, waiter.mode);
         }
     }
 

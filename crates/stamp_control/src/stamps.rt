@@ -1,1 +1,1 @@
-//! x
+//! TIMESTAMP as a control.

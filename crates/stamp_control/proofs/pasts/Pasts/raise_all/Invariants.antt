@@ -1,8 +1,0 @@
-use Rattle.std.proofs.Common.{◌≡◌, drop}
-use Rattle.deneva_base.specs.declared.keys.Key.{Key}
-use Rattle.stamp_control.specs.Pasts.{raised_by, past_at}
-use Rattle.stamp_control.proofs.pasts.Pasts.raise_all.Given as goal
-
--- the accesses that are left lead on to the end
-abbrev pub invariant-loop-waiter : goal.invariant-loop-waiter
-invariant-loop-waiter l = (key : Key) → raised_by (drop l.waiter-index l.waiters) key (past_at l.self key) ≡ raised_by l.waiters key (past_at l.fn.self key)
