@@ -1,5 +1,5 @@
 -- What the calls of a table answer and change.
-use Rattle.std.specs.Prelude.{◌≡◌, ℕ, ◌+◌, ◌≤◌, List, [], ◌∷◌, length, Bool, true, ◌&&◌, ltb, cond, Option, Some, None, count_by}
+use Rattle.std.specs.Prelude.{◌≡◌, ℕ, ◌+◌, ◌≤◌, List, [], ◌∷◌, length, Bool, true, ◌&&◌, ltb, cond, Option, Some, None}
 use Rattle.std.specs.List.{list_any}
 use Rattle.deneva_base.specs.declared.keys.Key.{Key}
 use Rattle.deneva_base.specs.declared.keys.Mode.{Mode}
@@ -43,7 +43,8 @@ refusal_in stamp key mode written read =
 
 -- how many of the requests write
 abbrev pub writers_in : List Request → ℕ
-writers_in rs = count_by (λ r. writes r.mode) rs
+writers_in [] = 0
+writers_in (r ∷ rs) = cond (writes r.mode) 1 0 + writers_in rs
 
 -- one of them waits above this number
 abbrev pub any_above : ℕ → List Request → Bool
