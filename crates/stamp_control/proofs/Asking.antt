@@ -253,3 +253,76 @@ module _ (loaded : Rows) (h : History) (known : Known loaded h) (sound : Sound l
             (λ x. absurd x)
             k)
             (in_cases v p.versions (L ∷ []) j)
+
+  version_is : (o : Option StoredVersion) (l : Version) → option_map version_of o ≡ Some l → version_of (version_or o) ≡ l
+  version_is None l e = absurd (cc (e))
+  version_is (Some v) l e = some_is (version_of v) l e
+
+  -- it waits
+  pub waits_tracks : (old new : Table) → Tracks loaded (state_of old) h → option_map version_of (version_at old.store key) ≡ Some (latest loaded h key) → top_written h key ≤ stamp → LetsWait key (record { who = who; stamp = stamp; mode = mode; waits = false }) old new → Tracks loaded (state_of new) (Ask who stamp key mode Waits ∷ h)
+  waits_tracks old new t latest_here top c =
+      let s : State = state_of old in
+      let s' : State = state_of new in
+      let r : Request = record { who = who; stamp = stamp; mode = mode; waits = true } in
+      let mid : Kept = past_at c.between key in
+      let L : StoredVersion = version_or (version_at old.store key) in
+      let is : version_of L ≡ latest loaded h key = version_is (version_at old.store key) (latest loaded h key) latest_here in
+      let same : mid.versions ≡ (s.pasts key).versions = (c.reserves.same key).versions in
+      let cases : (k : Key) → ((key ≡ k) × (s'.pasts k ≡ with_latest stamp L mid)) ⊎ ((key ≢ k) × (s'.pasts k ≡ past_at c.between k)) = λ k. ⊎_elim (λ x. inl (x.1, c.pasts k ∙ ap (λ b. cond b (with_latest stamp L mid) (past_at c.between k)) x.0)) (λ f. inr (f.1, c.pasts k ∙ ap (λ b. cond b (with_latest stamp L mid) (past_at c.between k)) f.0)) (same_tells key k) in
+      let here : s'.pasts key ≡ with_latest stamp L mid = ⊎_elim (λ x. x.1) (λ f. absurd (f.0 refl)) (cases key) in
+      let parts = latest_parts stamp L mid in
+      record {
+        accesses = ask_waits loaded h known traced who stamp key mode may s.accesses s'.accesses t.accesses (grew key r old.accesses new.accesses c.accesses) c.accesses.waiting;
+        read = λ k. ⊎_elim
+            (λ x. ap (λ (p : Kept). p.read) x.1 ∙ parts.0 ∙ (c.reserves.same key).read ∙ t.read key ∙ ap (top_read h) x.0)
+            (λ f. ap (λ (p : Kept). p.read) f.1 ∙ (c.reserves.same k).read ∙ t.read k)
+            (cases k);
+        waited = λ a i. ⊎_elim
+            (λ e. subst (λ (z : Asked). option_map version_of (pick z.stamp (s'.pasts z.key).versions) ≡ Some (below loaded h z.key z.stamp)) (sym e)
+            (ap (λ (p : Kept). option_map version_of (pick stamp p.versions)) here ∙ picks_latest s t mid L is same (latest_under top) ∙ ap Some (sym (reads_latest top))))
+            (λ j. ⊎_elim
+            (λ x.
+            let old_pick = subst (λ z. option_map version_of (pick a.stamp (s.pasts z).versions) ≡ Some (below loaded h z a.stamp)) (sym x.0) (t.waited a j) in
+            let mid_pick = ap (λ vs. option_map version_of (pick a.stamp vs)) same ∙ old_pick in
+            ap (λ (p : Kept). option_map version_of (pick a.stamp p.versions)) x.1
+            ∙ ap (option_map version_of) (picks_same s t mid L is same a.stamp (below loaded h key a.stamp) mid_pick (not_below key a.stamp))
+            ∙ mid_pick
+            ∙ ap (λ z. Some (below loaded h z a.stamp)) x.0)
+            (λ f. ap (λ (p : Kept). option_map version_of (pick a.stamp p.versions)) f.1 ∙ ap (λ vs. option_map version_of (pick a.stamp vs)) (c.reserves.same a.key).versions ∙ t.waited a j)
+            (cases a.key))
+            i;
+        kept = λ k v i. ⊎_elim
+            (λ x.
+            let p = kept_latest s t mid L is same v (subst (λ (q : Kept). IsIn v q.versions) x.1 i) in
+            let p' = subst (λ z. IsPast loaded h z v) x.0 p in
+            record { not_later = p'.not_later; same = p'.same })
+            (λ f. let p = t.kept k v (subst (λ vs. IsIn v vs) (c.reserves.same k).versions (subst (λ (q : Kept). IsIn v q.versions) f.1 i)) in record { not_later = p.not_later; same = p.same })
+            (cases k);
+        writers = λ k. ⊎_elim
+            (λ x.
+            let one = one_or_none (writes mode) in
+            let room = c.reserves.room.spare in
+            let spare = ap (λ (p : Kept). p.spare) (sym (ap (λ z. s'.pasts z) x.0) ∙ here) in
+            let rest = parts.1 in
+            omega (arith, x.1, one, room, spare, rest))
+            (λ x. let w = t.writers k in let e = (c.reserves.same k).spare in let spare = ap (λ (p : Kept). p.spare) (⊎_elim (λ y. absurd (x.0 y.0)) (λ f. f.1) (cases k)) in omega (arith, x.1, w, e, spare))
+            (writers_at key k r s.accesses.requests s'.accesses.requests (c.accesses.lines k));
+        there = λ a i. ⊎_elim
+            (λ x. subst (λ (p : Kept). p.present ≡ true) (sym x.1) (parts.2 ∙ c.reserves.room.present))
+            (λ f. ⊎_elim
+            (λ e. absurd (f.0 (sym (ap (λ (z : Asked). z.key) e))))
+            (λ j. subst (λ (p : Kept). p.present ≡ true) (sym f.1) ((c.reserves.same a.key).present (t.there a j)))
+            i)
+            (cases a.key);
+        tables = t.tables;
+        versions = λ k. ap (λ x. option_map version_of (version_at x k)) c.store ∙ t.versions k;
+        promised = c.promised ∙ t.promised;
+        room = let e = ap (λ x. x.spare) c.store in omega (arith, t.room, c.promised, e);
+      }
+    where
+      latest_parts : (n : ℕ) (L : StoredVersion) (p : Kept) → ((with_latest n L p).read ≡ p.read) × (p.spare ≤ (with_latest n L p).spare + 1) × ((with_latest n L p).present ≡ p.present)
+      latest_parts n L p = go (is_numbered L.number (pick n p.versions))
+        where
+          go : (b : Bool) → ((cond b p (with_version L p)).read ≡ p.read) × (p.spare ≤ (cond b p (with_version L p)).spare + 1) × ((cond b p (with_version L p)).present ≡ p.present)
+          go true = (refl, omega arith, refl)
+          go false = (refl, omega arith, refl)

@@ -6,3 +6,4 @@ pub mod Keeping
 pub mod Histories
 pub mod Counting
 pub mod Asking
+pub mod Promising
