@@ -7,3 +7,4 @@ pub mod Histories
 pub mod Counting
 pub mod Asking
 pub mod Promising
+pub mod Ending

@@ -1,0 +1,178 @@
+-- The table tracks the history with one more Prepare, and with the end of an attempt that wakes nobody.
+use Rattle.std.proofs.Common.{◌≡◌, ◌≢◌, ◌⊎◌, ℕ, ◌+◌, ◌-◌, ◌≤◌, ◌<◌, List, [], ◌∷◌, ◌++◌, filter, Bool, true, false, cond, ltb, ◌&&◌, length, refl, sym, ap, ◌∙◌, subst, inl, inr, ⊎_elim, arith, true≢false, Option, Some, None, option_map}
+use Rattle.std.proofs.lemmas.Bool.{lt-ltb, ltb-true}
+use Rattle.std.proofs.lemmas.Bool.Decides.{nat_tests}
+use Rattle.std.specs.FinMap.{get}
+use Rattle.deneva_base.specs.declared.keys.Key.{Key}
+use Rattle.deneva_base.specs.declared.numbers.Attempt.{Attempt}
+use Rattle.deneva_base.specs.declared.numbers.Number.{Number}
+use Rattle.deneva_base.specs.declared.rows.Keyed.{Keyed}
+use Rattle.deneva_base.specs.declared.causes.Bound.{Bound}
+use Rattle.deneva_base.specs.declared.answers.Vote.TheVariants.{Yes}
+use Rattle.deneva_base.specs.Conditions.{MayPrepare, MayCommit, MayAbort, Distinct}
+use Rattle.deneva_base.specs.History.{Prepare, Commit, Abort, History, Asked, waits, yeas, IsUnended}
+use Rattle.deneva_base.specs.Keys.{key_eq, number_lt}
+use Rattle.deneva_base.specs.Latest.{Version, row_for, writes_in, latest, newer}
+use Rattle.deneva_base.specs.Leaving.{later as later_row, left_in}
+use Rattle.deneva_base.specs.Lists.{IsIn}
+use Rattle.deneva_base.specs.Modes.{writes}
+use Rattle.deneva_base.specs.Rows.{Row, Rows}
+use Rattle.deneva_base.specs.Timestamp.{top_read}
+use Rattle.deneva_base.specs.Versions.{version_of as written_as, written, start, greatest, later, below}
+use Rattle.deneva_base.proofs.Belows.{Listed}
+use Rattle.deneva_base.proofs.Known.{Known}
+use Rattle.deneva_base.proofs.Marks.{Marked}
+use Rattle.deneva_base.proofs.Sound.{Sound, row_found, writes_found}
+use Rattle.deneva_base.proofs.Traced.{Traced}
+use Rattle.deneva_base.proofs.Words.{any_at, and_true, in_cases, writing_decides}
+use Rattle.row_store.specs.declared.versions.Version.{Version as StoredVersion}
+use Rattle.row_store.specs.Stores.{version_at}
+use Rattle.control_core.specs.Leaving.{last}
+use Rattle.control_core.proofs.Lasts.{appends_in}
+use Rattle.stamp_lines.specs.declared.requests.Request.{Request}
+use Rattle.stamp_lines.specs.Requests.{without}
+use Rattle.stamp_lines.specs.Standing.{Seen, seen_of, owner_of, waiter_of, Tracks as TracksAccesses}
+use Rattle.stamp_lines.specs.Tables.{Holding}
+use Rattle.stamp_lines.proofs.Asking.{same_tracks}
+use Rattle.stamp_lines.proofs.Ending.{prepared, Closes, commit_closes, abort_closes, requests_left, closed_tracks}
+use Rattle.stamp_control.specs.declared.table.Table.{Table}
+use Rattle.stamp_control.specs.Picks.{newer_than, offer, pick}
+use Rattle.stamp_control.specs.Pasts.{Kept, past_at, with_version}
+use Rattle.stamp_control.specs.Changes.{writers_in, any_above, kept_by, kept_left, offered, Promises, MayReserve, Ends}
+use Rattle.stamp_control.specs.Standing.{State, state_of, version_of, IsPast, promised_in, Tracks}
+use Rattle.stamp_control.proofs.Counting.{writers_less, writers_one_less}
+use Rattle.stamp_control.proofs.Histories.{commit_apart, votes_distinct, writes_distinct}
+use Rattle.stamp_control.proofs.Keeping.{kept_once, kept_row}
+use Rattle.stamp_control.proofs.Picks.{lt_irrefl, lt_le, le_lt, le_le, lt_not, pick_more}
+use Rattle.stamp_control.proofs.Promising.{unended_test, Apart, promised_less, committed_version}
+
+-- it votes Yes
+pub prepared_tracks : (loaded : Rows) (h : History) (who : Attempt) (bound : Bound) (writes' appends : List Keyed) → MayPrepare h who bound writes' appends → (old new : Table) (lo hi : ℕ) → Promises who writes' appends old new → Tracks loaded (state_of old) h → Tracks loaded (state_of new) (Prepare who bound writes' appends (Yes lo hi) ∷ h)
+prepared_tracks loaded h who bound writes' appends may old new lo hi c t =
+    let s : State = state_of old in
+    let pasts : (k : Key) → past_at new.pasts k ≡ past_at old.pasts k = λ k. ap (λ p. past_at p k) c.pasts in
+    record {
+      accesses = prepared loaded h who bound writes' appends may old.accesses new.accesses lo hi c.accesses t.accesses;
+      read = λ k. ap (λ (p : Kept). p.read) (pasts k) ∙ t.read k;
+      waited = λ a i. ap (λ (p : Kept). option_map version_of (pick a.stamp p.versions)) (pasts a.key) ∙ t.waited a i;
+      kept = λ k v i. let p = t.kept k v (subst (λ (q : Kept). IsIn v q.versions) (pasts k) i) in record { not_later = p.not_later; same = p.same };
+      writers = λ k. let w = t.writers k in let e = ap writers_in (c.accesses.lines k) in let p = ap (λ (q : Kept). q.spare) (pasts k) in omega (arith, w, e, p);
+      there = λ a i. ap (λ (p : Kept). p.present) (pasts a.key) ∙ t.there a i;
+      tables = t.tables;
+      versions = λ k. ap (λ m. option_map version_of (get m k)) c.versions ∙ t.versions k;
+      promised = let e = t.promised in let f = c.promised in rw (unended_test h who may.unended) (omega (arith, e, f));
+      room = c.room;
+    }
+
+-- what is only reserved changes nothing that is tracked
+pub reserved_tracks : (loaded : Rows) (h : History) (old new : Table) → MayReserve old new → Tracks loaded (state_of old) h → Tracks loaded (state_of new) h
+reserved_tracks loaded h old new c t =
+    let pasts : (k : Key) → past_at new.pasts k ≡ past_at old.pasts k = λ k. ap (λ p. past_at p k) c.pasts in
+    record {
+      accesses = same_tracks h old.accesses new.accesses c.accesses t.accesses;
+      read = λ k. ap (λ (p : Kept). p.read) (pasts k) ∙ t.read k;
+      waited = λ a i. ap (λ (p : Kept). option_map version_of (pick a.stamp p.versions)) (pasts a.key) ∙ t.waited a i;
+      kept = λ k v i. t.kept k v (subst (λ (q : Kept). IsIn v q.versions) (pasts k) i);
+      writers = λ k. let w = t.writers k in let e = ap writers_in (c.accesses.lines k) in let p = ap (λ (q : Kept). q.spare) (pasts k) in omega (arith, w, e, p);
+      there = λ a i. ap (λ (p : Kept). p.present) (pasts a.key) ∙ t.there a i;
+      tables = t.tables;
+      versions = λ k. ap (λ m. option_map version_of (get m k)) c.versions ∙ t.versions k;
+      promised = c.promised ∙ t.promised;
+      room = omega (arith, t.room, c.promised, c.room);
+    }
+
+-- rows that are kept leave the rest
+kept_rest : (number : Number) (ws : List Keyed) (rs : List Request) (k : Key) (p : Kept) → ((kept_by number ws rs k p).read ≡ p.read) × ((kept_by number ws rs k p).present ≡ p.present)
+kept_rest number [] rs k p = (refl, refl)
+kept_rest number (w ∷ ws) rs k p = go (key_eq w.key k && any_above number.n rs) (λ q. kept_rest number ws rs k q)
+  where
+    go : (b : Bool) → ((q : Kept) → ((kept_by number ws rs k q).read ≡ q.read) × ((kept_by number ws rs k q).present ≡ q.present)) → ((kept_by number ws rs k (cond b (with_version (record { number = number; row = w.row }) p) p)).read ≡ p.read) × ((kept_by number ws rs k (cond b (with_version (record { number = number; row = w.row }) p) p)).present ≡ p.present)
+    go true rest = rest (with_version (record { number = number; row = w.row }) p)
+    go false rest = rest p
+
+left_rest : (number : Option Number) (ws : List Keyed) (rs : List Request) (k : Key) (p : Kept) → ((kept_left number ws rs k p).read ≡ p.read) × ((kept_left number ws rs k p).present ≡ p.present)
+left_rest None ws rs k p = (refl, refl)
+left_rest (Some number) ws rs k p = kept_rest number ws rs k p
+
+-- what an end leaves of the versions that are kept of the keys
+pub record Leaves (loaded : Rows) (h h' : History) (s s' : State) : Type 0 where
+  pub tops : (k : Key) → top_read h' k ≡ top_read h k
+  pub waited : (a : Asked) → IsIn a (waits h) → option_map version_of (pick a.stamp (s'.pasts a.key).versions) ≡ Some (below loaded h' a.key a.stamp)
+  pub kept : (k : Key) (v : StoredVersion) → IsIn v (s'.pasts k).versions → IsPast loaded h' k v
+  pub writers : (k : Key) → writers_in (s'.accesses.requests k) ≤ (s'.pasts k).spare
+  pub versions : (k : Key) → option_map version_of (s'.versions k) ≡ last loaded h' k
+
+pub end_tracks : (loaded : Rows) (h h' : History) (who : Attempt) (number : Option Number) → Apart (yeas h) → Closes h h' who → (old new : Table) → Ends who number old new → Leaves loaded h h' (state_of old) (state_of new) → Tracks loaded (state_of old) h → Tracks loaded (state_of new) h'
+end_tracks loaded h h' who number apart c old new e l t =
+    let s : State = state_of old in
+    let s' : State = state_of new in
+    let rest : (k : Key) → ((s'.pasts k).read ≡ (s.pasts k).read) × ((s'.pasts k).present ≡ (s.pasts k).present) = λ k. subst (λ (p : Kept). (p.read ≡ (s.pasts k).read) × (p.present ≡ (s.pasts k).present)) (sym (e.pasts k)) (left_rest number (s.accesses.holding who).copies (s'.accesses.requests k) k (s.pasts k)) in
+    record {
+      accesses = closed_tracks h h' who c old.accesses new.accesses t.accesses e.accesses;
+      read = λ k. (rest k).0 ∙ t.read k ∙ sym (l.tops k);
+      waited = λ a i. l.waited a (subst (λ x. IsIn a x) c.waits_kept i);
+      kept = l.kept;
+      writers = l.writers;
+      there = λ a i. (rest a.key).1 ∙ t.there a (subst (λ x. IsIn a x) c.waits_kept i);
+      tables = t.tables;
+      versions = l.versions;
+      promised =
+          let mine = ap (λ (x : List Keyed). length x) (t.accesses.rows who c.unended).2 in
+          let less = promised_less h h' who (yeas h) c.ended_more c.unended apart in
+          let to : promised_in h' (yeas h') ≡ promised_in h' (yeas h) = ap (promised_in h') c.yeas_same in
+          omega (arith, e.promised, t.promised, mine, less, to);
+      room = omega (arith, t.room, e.promised, e.room);
+    }
+
+module _ (loaded : Rows) (h : History) (who : Attempt) (may : MayAbort h who) (old new : Table) (e : Ends who None old new) (t : Tracks loaded (state_of old) h) where
+  pub abort_leaves : Leaves loaded h (Abort who [] ∷ h) (state_of old) (state_of new)
+  abort_leaves =
+      let s : State = state_of old in
+      let s' : State = state_of new in
+      let left = requests_left h (Abort who [] ∷ h) who (abort_closes h who may) old.accesses new.accesses t.accesses e.accesses in
+      record {
+        tops = λ k. refl;
+        waited = λ a i. ap (λ (p : Kept). option_map version_of (pick a.stamp p.versions)) (e.pasts a.key) ∙ t.waited a i;
+        kept = λ k v i. let p = t.kept k v (subst (λ (q : Kept). IsIn v q.versions) (e.pasts k) i) in record { not_later = p.not_later; same = p.same };
+        writers = λ k. let w = t.writers k in let n = ap writers_in (left k) in let less = writers_less who (s.accesses.requests k) in let p = ap (λ (q : Kept). q.spare) (e.pasts k) in omega (arith, w, n, less, p);
+        versions = λ k. ap (option_map version_of) (e.versions k) ∙ t.versions k;
+      }
+
+some_is : {A : Type 0} (x y : A) → Some x ≡ Some y → x ≡ y
+some_is {A} x y e = ap get e
+  where
+    get : Option A → A
+    get None = x
+    get (Some z) = z
+
+-- what is picked and what is below, with one more version
+pub offered_below : (n : ℕ) (o : Option StoredVersion) (b : Version) (w : StoredVersion) → option_map version_of o ≡ Some b → option_map version_of (offer n o w) ≡ Some (cond (ltb w.number.n n) (later b (version_of w)) b)
+offered_below n None b w e = absurd (cc (e))
+offered_below n (Some v) b w e = subst (λ (z : Version). option_map version_of (offer n (Some v) w) ≡ Some (cond (ltb w.number.n n) (later z (version_of w)) z)) (some_is (version_of v) b e) (go (ltb w.number.n n) (number_lt v.number w.number))
+  where
+    go : (c d : Bool) → option_map version_of (cond (c && d) (Some w) (Some v)) ≡ Some (cond c (cond d (version_of w) (version_of v)) (version_of v))
+    go true true = refl
+    go true false = refl
+    go false d = refl
+
+below_more : (v : Version) (n : ℕ) (w : Version) (ws : List Version) → greatest v (filter (λ (x : Version). ltb x.number.n n) (w ∷ ws)) ≡ cond (ltb w.number.n n) (later (greatest v (filter (λ (x : Version). ltb x.number.n n) ws)) w) (greatest v (filter (λ (x : Version). ltb x.number.n n) ws))
+below_more v n w ws = go (ltb w.number.n n)
+  where
+    go : (b : Bool) → greatest v (cond b (w ∷ filter (λ (x : Version). ltb x.number.n n) ws) (filter (λ (x : Version). ltb x.number.n n) ws)) ≡ cond b (later (greatest v (filter (λ (x : Version). ltb x.number.n n) ws)) w) (greatest v (filter (λ (x : Version). ltb x.number.n n) ws))
+    go true = refl
+    go false = refl
+
+-- a version is no later than the latest, with one more
+past_newer : (l : Version) (number : Number) (row : Row) (v : StoredVersion) → number_lt l.number v.number ≡ false → (v.number ≡ l.number → version_of v ≡ l) → (number_lt (newer l number (Some row)).number v.number ≡ false) × (v.number ≡ (newer l number (Some row)).number → version_of v ≡ newer l number (Some row))
+past_newer l number row v n s = go (number_lt l.number number) refl
+  where
+    go : (b : Bool) → number_lt l.number number ≡ b → (number_lt (cond b (record { number = number; row = row }) l).number v.number ≡ false) × (v.number ≡ (cond b (record { number = number; row = row }) l).number → version_of v ≡ cond b (record { number = number; row = row }) l)
+    go true e = (lt_not v.number number (le_lt v.number l.number number n e), λ x. absurd (true≢false (sym (ap (number_lt l.number) x ∙ e) ∙ n)))
+    go false e = (n, s)
+
+new_past : (l : Version) (number : Number) (row : Row) → number.n ≢ l.number.n → (number_lt (newer l number (Some row)).number number ≡ false) × (number ≡ (newer l number (Some row)).number → record { number = number; row = row } ≡ newer l number (Some row))
+new_past l number row apart = go (number_lt l.number number) refl
+  where
+    go : (b : Bool) → number_lt l.number number ≡ b → (number_lt (cond b (record { number = number; row = row }) l).number number ≡ false) × (number ≡ (cond b (record { number = number; row = row }) l).number → record { number = number; row = row } ≡ cond b (record { number = number; row = row }) l)
+    go true e = (lt_irrefl number, λ x. refl)
+    go false e = (e, λ x. absurd (apart (ap (λ (n : Number). n.n) x)))
