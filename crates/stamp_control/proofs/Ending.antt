@@ -176,3 +176,110 @@ new_past l number row apart = go (number_lt l.number number) refl
     go : (b : Bool) → number_lt l.number number ≡ b → (number_lt (cond b (record { number = number; row = row }) l).number number ≡ false) × (number ≡ (cond b (record { number = number; row = row }) l).number → record { number = number; row = row } ≡ cond b (record { number = number; row = row }) l)
     go true e = (lt_irrefl number, λ x. refl)
     go false e = (e, λ x. absurd (apart (ap (λ (n : Number). n.n) x)))
+
+module _ (loaded : Rows) (h : History) (known : Known loaded h) (sound : Sound loaded h) (traced : Traced h) (marked : Marked h) (listed : Listed loaded h) (who : Attempt) (number : Number) (distinct : Distinct (writes_in (yeas h) who)) (may : MayCommit h who number) (old new : Table) (e : Ends who (Some number) old new) (t : Tracks loaded (state_of old) h) where
+  abbrev c : Closes h (Commit who number [] ∷ h) who
+  c = commit_closes loaded h who number known sound may
+
+  abbrev s : State
+  s = state_of old
+
+  abbrev s' : State
+  s' = state_of new
+
+  abbrev ws : List Keyed
+  ws = writes_in (yeas h) who
+
+  abbrev made : Row → StoredVersion
+  made row = record { number = number; row = row }
+
+  closed : TracksAccesses s'.accesses (Commit who number [] ∷ h)
+  closed = closed_tracks h (Commit who number [] ∷ h) who c old.accesses new.accesses t.accesses e.accesses
+
+  -- what is kept of a key that is not written, and of one that is
+  past_none : (k : Key) → row_for k ws ≡ None → s'.pasts k ≡ s.pasts k
+  past_none k none = e.pasts k ∙ ap (λ l. kept_by number l (s'.accesses.requests k) k (s.pasts k)) (t.accesses.rows who may.unended).1 ∙ kept_once number ws (s'.accesses.requests k) k (s.pasts k) none
+
+  past_some : (k : Key) (row : Row) → row_for k ws ≡ Some row → s'.pasts k ≡ cond (any_above number.n (s'.accesses.requests k)) (with_version (record { number = number; row = row }) (s.pasts k)) (s.pasts k)
+  past_some k row some = e.pasts k ∙ ap (λ l. kept_by number l (s'.accesses.requests k) k (s.pasts k)) (t.accesses.rows who may.unended).1 ∙ kept_row number ws (s'.accesses.requests k) k (s.pasts k) row distinct some
+
+  waits_on : (a : Asked) → IsIn a (waits h) → IsIn (waiter_of a) (s'.accesses.requests a.key)
+  waits_on a i = closed.queued a (subst (λ l. IsIn a l) (sym c.waits_kept) i)
+
+  waited : (a : Asked) → IsIn a (waits h) → (r : Option Row) → row_for a.key ws ≡ r → option_map version_of (pick a.stamp (s'.pasts a.key).versions) ≡ Some (greatest (start loaded a.key) (filter (λ (v : Version). ltb v.number.n a.stamp) (written_as number r ++ written h a.key)))
+  waited a i None none = ap (λ (p : Kept). option_map version_of (pick a.stamp p.versions)) (past_none a.key none) ∙ t.waited a i
+  waited a i (Some row) some =
+      ap (λ (p : Kept). option_map version_of (pick a.stamp p.versions)) (past_some a.key row some)
+      ∙ go (any_above number.n (s'.accesses.requests a.key)) refl
+      ∙ ap Some (sym (below_more (start loaded a.key) a.stamp (record { number = number; row = row }) (written h a.key)))
+    where
+      above : ltb number.n a.stamp ≡ true → any_above number.n (s'.accesses.requests a.key) ≡ true
+      above l = any_at (λ (r : Request). r.waits && ltb number.n r.stamp) (waiter_of a) (s'.accesses.requests a.key) (waits_on a i) l
+
+      apart : any_above number.n (s'.accesses.requests a.key) ≡ false → (b : Bool) → ltb number.n a.stamp ≡ b → b ≡ false
+      apart n true l = absurd (true≢false (sym (above l) ∙ n))
+      apart n false l = refl
+
+      go : (b : Bool) → any_above number.n (s'.accesses.requests a.key) ≡ b → option_map version_of (pick a.stamp (cond b (with_version (record { number = number; row = row }) (s.pasts a.key)) (s.pasts a.key)).versions) ≡ Some (cond (ltb number.n a.stamp) (later (below loaded h a.key a.stamp) (record { number = number; row = row })) (below loaded h a.key a.stamp))
+      go true f =
+          ap (option_map version_of) (pick_more a.stamp None (s.pasts a.key).versions (made row ∷ []))
+          ∙ offered_below a.stamp (pick a.stamp (s.pasts a.key).versions) (below loaded h a.key a.stamp) (made row) (t.waited a i)
+      go false f =
+          t.waited a i ∙ sym (ap (λ b. Some (cond b (later (below loaded h a.key a.stamp) (record { number = number; row = row })) (below loaded h a.key a.stamp))) (apart f (ltb number.n a.stamp) refl))
+
+  kept : (k : Key) (v : StoredVersion) → IsIn v (s'.pasts k).versions → (r : Option Row) → row_for k ws ≡ r → (number_lt (newer (latest loaded h k) number r).number v.number ≡ false) × (v.number ≡ (newer (latest loaded h k) number r).number → version_of v ≡ newer (latest loaded h k) number r)
+  kept k v i None none = let p = t.kept k v (subst (λ (q : Kept). IsIn v q.versions) (past_none k none) i) in (p.not_later, p.same)
+  kept k v i (Some row) some = go (any_above number.n (s'.accesses.requests k)) (subst (λ (q : Kept). IsIn v q.versions) (past_some k row some) i)
+    where
+      old_one : IsIn v (s.pasts k).versions → (number_lt (newer (latest loaded h k) number (Some row)).number v.number ≡ false) × (v.number ≡ (newer (latest loaded h k) number (Some row)).number → version_of v ≡ newer (latest loaded h k) number (Some row))
+      old_one j = let p = t.kept k v j in past_newer (latest loaded h k) number row v p.not_later p.same
+
+      go : (b : Bool) → IsIn v (cond b (with_version (record { number = number; row = row }) (s.pasts k)) (s.pasts k)).versions → (number_lt (newer (latest loaded h k) number (Some row)).number v.number ≡ false) × (v.number ≡ (newer (latest loaded h k) number (Some row)).number → version_of v ≡ newer (latest loaded h k) number (Some row))
+      go true j = ⊎_elim
+          (λ x. old_one x)
+          (λ x. ⊎_elim
+          (λ y. subst (λ (z : StoredVersion). (number_lt (newer (latest loaded h k) number (Some row)).number z.number ≡ false) × (z.number ≡ (newer (latest loaded h k) number (Some row)).number → version_of z ≡ newer (latest loaded h k) number (Some row))) (sym y)
+          (new_past (latest loaded h k) number row (commit_apart loaded h known sound traced marked listed who number may k row some)))
+          (λ y. absurd y)
+          x)
+          (in_cases v (s.pasts k).versions (made row ∷ []) j)
+      go false j = old_one j
+
+  writers_left : (k : Key) → s'.accesses.requests k ≡ without who (s.accesses.requests k)
+  writers_left k = requests_left h (Commit who number [] ∷ h) who c old.accesses new.accesses t.accesses e.accesses k
+
+  writers : (k : Key) (r : Option Row) → row_for k ws ≡ r → writers_in (s'.accesses.requests k) ≤ (s'.pasts k).spare
+  writers k None none =
+      let w = t.writers k in
+      let n = ap writers_in (writers_left k) in
+      let less = writers_less who (s.accesses.requests k) in
+      let p = ap (λ (q : Kept). q.spare) (past_none k none) in
+      omega (arith, w, n, less, p)
+  writers k (Some row) some =
+      let y = writes_found (yeas h) who (record { key = k; row = row }) (row_found k ws row some) in
+      let g = sound.holds y.0 (record { key = k; row = row }) y.2 y.3 in
+      let mine : g.0.who ≡ who = g.2 ∙ y.1 in
+      let there : IsIn (owner_of g.0) (s.accesses.requests k) = subst (λ z. IsIn (owner_of g.0) (s.accesses.requests z)) g.3 (t.accesses.owned g.0 g.1 (subst (λ z. IsUnended h z) (sym mine) may.unended)) in
+      let one = writers_one_less who (owner_of g.0) (s.accesses.requests k) there mine ((writing_decides g.0.mode).1 g.4) in
+      let w = t.writers k in
+      let n = ap writers_in (writers_left k) in
+      let p = ap (λ (q : Kept). q.spare) (past_some k row some) in
+      let l = least (any_above number.n (s'.accesses.requests k)) in
+      omega (arith, w, n, one, p, l)
+    where
+      least : (b : Bool) → (s.pasts k).spare - 1 ≤ (cond b (with_version (record { number = number; row = row }) (s.pasts k)) (s.pasts k)).spare
+      least true = omega arith
+      least false = omega arith
+
+  pub commit_leaves : Leaves loaded h (Commit who number [] ∷ h) (state_of old) (state_of new)
+  commit_leaves =
+      let rows = t.accesses.rows who may.unended in
+      record {
+        tops = λ k. refl;
+        waited = λ a i. waited a i (row_for a.key ws) refl;
+        kept = λ k v i. let p = kept k v i (row_for k ws) refl in record { not_later = p.0; same = p.1 };
+        writers = λ k. writers k (row_for k ws) refl;
+        versions = λ k.
+            ap (option_map version_of) (e.versions k ∙ ap (λ l. offered number (s.accesses.holding who).appends k (offered number l k (s.versions k))) rows.0 ∙ ap (λ as'. offered number as' k (offered number (writes_in (yeas h) who) k (s.versions k))) rows.2)
+            ∙ committed_version number (yeas h) who k (s.versions k) ∙ ap (λ v. later_row v number (row_for k (left_in (yeas h) who))) (t.versions k);
+      }
