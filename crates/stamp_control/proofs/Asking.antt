@@ -72,7 +72,7 @@ one_or_none true = omega arith
 one_or_none false = omega arith
 
 -- what a granted access leaves
-granted_versions : (key : Key) (stamp : ℕ) (mode : Mode) (k : Key) (p : Kept) → (granted_at key stamp mode k p).versions ≡ p.versions
+pub granted_versions : (key : Key) (stamp : ℕ) (mode : Mode) (k : Key) (p : Kept) → (granted_at key stamp mode k p).versions ≡ p.versions
 granted_versions key stamp mode k p = go (same_key key k && reads mode) p.present
   where
     go : (b c : Bool) → (cond b (cond c (record { read = max p.read stamp; versions = p.versions; spare = p.spare; present = true }) p) p).versions ≡ p.versions
@@ -80,7 +80,7 @@ granted_versions key stamp mode k p = go (same_key key k && reads mode) p.presen
     go true false = refl
     go false c = refl
 
-granted_spare : (key : Key) (stamp : ℕ) (mode : Mode) (k : Key) (p : Kept) → (granted_at key stamp mode k p).spare ≡ p.spare
+pub granted_spare : (key : Key) (stamp : ℕ) (mode : Mode) (k : Key) (p : Kept) → (granted_at key stamp mode k p).spare ≡ p.spare
 granted_spare key stamp mode k p = go (same_key key k && reads mode) p.present
   where
     go : (b c : Bool) → (cond b (cond c (record { read = max p.read stamp; versions = p.versions; spare = p.spare; present = true }) p) p).spare ≡ p.spare
@@ -88,7 +88,7 @@ granted_spare key stamp mode k p = go (same_key key k && reads mode) p.present
     go true false = refl
     go false c = refl
 
-granted_present : (key : Key) (stamp : ℕ) (mode : Mode) (k : Key) (p : Kept) → p.present ≡ true → (granted_at key stamp mode k p).present ≡ true
+pub granted_present : (key : Key) (stamp : ℕ) (mode : Mode) (k : Key) (p : Kept) → p.present ≡ true → (granted_at key stamp mode k p).present ≡ true
 granted_present key stamp mode k p e = go (same_key key k && reads mode) p.present e
   where
     go : (b c : Bool) → c ≡ true → (cond b (cond c (record { read = max p.read stamp; versions = p.versions; spare = p.spare; present = true }) p) p).present ≡ true

@@ -8,3 +8,5 @@ pub mod Counting
 pub mod Asking
 pub mod Promising
 pub mod Ending
+pub mod Waking
+pub mod Letting

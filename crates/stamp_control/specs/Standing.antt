@@ -33,10 +33,13 @@ state_of t = record { accesses = seen_of t.accesses; pasts = past_at t.pasts; ve
 abbrev pub version_of : StoredVersion → Version
 version_of v = record { number = v.number; row = v.row }
 
--- the version is the key's latest, or has a smaller number
-pub record IsPast (loaded : Rows) (h : History) (key : Key) (v : StoredVersion) : Type 0 where
-  pub not_later : number_lt (latest loaded h key).number v.number ≡ false
-  pub same : v.number ≡ (latest loaded h key).number → version_of v ≡ latest loaded h key
+-- the version is this one, or has a smaller number; this one is the key's latest
+pub record IsPastOf (l : Version) (v : StoredVersion) : Type 0 where
+  pub not_later : number_lt l.number v.number ≡ false
+  pub same : v.number ≡ l.number → version_of v ≡ l
+
+abbrev pub IsPast : Rows → History → Key → StoredVersion → Type 0
+IsPast loaded h key v = IsPastOf (latest loaded h key) v
 
 -- how many rows are appended by attempts that voted Yes and have not ended
 abbrev pub promised_in : History → List Yea → ℕ
