@@ -155,7 +155,7 @@ offered_below n (Some v) b w e = subst (λ (z : Version). option_map version_of 
     go true false = refl
     go false d = refl
 
-below_more : (v : Version) (n : ℕ) (w : Version) (ws : List Version) → greatest v (filter (λ (x : Version). ltb x.number.n n) (w ∷ ws)) ≡ cond (ltb w.number.n n) (later (greatest v (filter (λ (x : Version). ltb x.number.n n) ws)) w) (greatest v (filter (λ (x : Version). ltb x.number.n n) ws))
+pub below_more : (v : Version) (n : ℕ) (w : Version) (ws : List Version) → greatest v (filter (λ (x : Version). ltb x.number.n n) (w ∷ ws)) ≡ cond (ltb w.number.n n) (later (greatest v (filter (λ (x : Version). ltb x.number.n n) ws)) w) (greatest v (filter (λ (x : Version). ltb x.number.n n) ws))
 below_more v n w ws = go (ltb w.number.n n)
   where
     go : (b : Bool) → greatest v (cond b (w ∷ filter (λ (x : Version). ltb x.number.n n) ws) (filter (λ (x : Version). ltb x.number.n n) ws)) ≡ cond b (later (greatest v (filter (λ (x : Version). ltb x.number.n n) ws)) w) (greatest v (filter (λ (x : Version). ltb x.number.n n) ws))

@@ -10,3 +10,5 @@ pub mod Promising
 pub mod Ending
 pub mod Waking
 pub mod Letting
+pub mod Calls
+pub mod Outcomes

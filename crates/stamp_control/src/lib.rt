@@ -6,6 +6,6 @@ mod fronts;
 mod pasts;
 mod stamps;
 mod table;
+mod threads;
 
-
-
+pub use stamps::Stamps;
