@@ -1,5 +1,5 @@
 -- The table tracks the history with one more Ask.
-use Rattle.std.proofs.Common.{◌≡◌, ◌≢◌, ◌⊎◌, ℕ, max, ◌+◌, ◌≤◌, ◌<◌, List, [], ◌∷◌, ◌++◌, filter, ◌==◌, Bool, true, false, cond, ltb, ◌&&◌, refl, sym, ap, ◌∙◌, subst, inl, inr, ⊎_elim, arith, true≢false, Option, Some, None, option_map}
+use Rattle.std.proofs.Common.{◌≡◌, ◌≢◌, ◌⊎◌, ℕ, max, ◌+◌, ◌≤◌, ◌<◌, List, [], ◌∷◌, filter, ◌==◌, Bool, true, false, cond, ltb, ◌&&◌, refl, sym, ap, ◌∙◌, subst, inl, inr, ⊎_elim, arith, true≢false, Option, Some, None, option_map}
 use Rattle.std.proofs.lemmas.Bool.{lt-ltb, ltb-true}
 use Rattle.std.proofs.lemmas.Bool.Decides.{nat_tests}
 use Rattle.deneva_base.specs.declared.keys.Key.{Key}
@@ -9,10 +9,10 @@ use Rattle.deneva_base.specs.declared.numbers.Number.{Number}
 use Rattle.deneva_base.specs.declared.causes.Cause.{Cause}
 use Rattle.deneva_base.specs.declared.answers.Answer.TheVariants.{Granted, Waits, Refused}
 use Rattle.deneva_base.specs.Conditions.{MayAsk}
-use Rattle.deneva_base.specs.History.{Ask, History, Asked, Grant, grants, waits}
+use Rattle.deneva_base.specs.History.{Ask, History, Asked}
 use Rattle.deneva_base.specs.Keys.{key_eq, number_eq, number_lt}
 use Rattle.deneva_base.specs.Latest.{Version, latest}
-use Rattle.deneva_base.specs.Lists.{IsIn, greatest_by}
+use Rattle.deneva_base.specs.Lists.{IsIn}
 use Rattle.deneva_base.specs.Modes.{reads, writes}
 use Rattle.deneva_base.specs.Rows.{Row, Rows}
 use Rattle.deneva_base.specs.Timestamp.{top_written, top_read}
@@ -22,24 +22,22 @@ use Rattle.deneva_base.proofs.Known.{Known}
 use Rattle.deneva_base.proofs.Marks.{Marked}
 use Rattle.deneva_base.proofs.Sound.{Sound}
 use Rattle.deneva_base.proofs.Traced.{Traced}
-use Rattle.deneva_base.proofs.Words.{and_parts, and_true, in_cases, in_filter, key_tells}
+use Rattle.deneva_base.proofs.Words.{and_parts, and_true, in_cases, in_filter}
 use Rattle.row_store.specs.declared.versions.Version.{Version as StoredVersion}
 use Rattle.row_store.specs.Stores.{version_at}
 use Rattle.row_store.proofs.Tables.{same_key-key_eq}
 use Rattle.stamp_lines.specs.declared.requests.Request.{Request}
 use Rattle.stamp_lines.specs.Requests.{put_request}
-use Rattle.stamp_lines.specs.Standing.{Seen, seen_of}
-use Rattle.stamp_lines.specs.Tables.{requests_at, same_key}
+use Rattle.stamp_lines.specs.Tables.{same_key}
 use Rattle.stamp_lines.proofs.Asking.{grew, ask_granted, ask_waits, ask_refused, same_tracks}
 use Rattle.stamp_lines.proofs.Places.{same_tells}
-use Rattle.stamp_control.specs.declared.pasts.Pasts.{Pasts}
 use Rattle.stamp_control.specs.declared.table.Table.{Table}
-use Rattle.stamp_control.specs.Picks.{newer_than, offer, pick_from, pick}
-use Rattle.stamp_control.specs.Pasts.{Kept, past_at, is_numbered, with_version, with_latest, raised, granted_at, Wider}
-use Rattle.stamp_control.specs.Changes.{writers_in, version_or, waiting, Grants, LetsWait, MayWiden}
+use Rattle.stamp_control.specs.Picks.{newer_than, offer, pick}
+use Rattle.stamp_control.specs.Pasts.{Kept, past_at, is_numbered, with_version, with_latest, raised, granted_at}
+use Rattle.stamp_control.specs.Changes.{writers_in, version_or, Grants, LetsWait, MayWiden}
 use Rattle.stamp_control.specs.Standing.{State, state_of, version_of, IsPast, Tracks}
 use Rattle.stamp_control.proofs.Counting.{writers_put}
-use Rattle.stamp_control.proofs.Histories.{latest_is, top_is, below_latest, ask_apart}
+use Rattle.stamp_control.proofs.Histories.{latest_is, below_latest, ask_apart}
 use Rattle.stamp_control.proofs.Picks.{lt_irrefl, pick_more, pick_in}
 
 -- more room changes nothing that is tracked

@@ -1,5 +1,5 @@
 -- The calls of a table that stands for a history.
-use Rattle.std.proofs.Common.{◌≡◌, ◌≢◌, ◌⊎◌, ℕ, ◌+◌, ◌^◌, ◌<◌, ◌≤◌, ltb, List, [], ◌∷◌, ◌++◌, map, filter, Bool, true, false, not, ◌&&◌, cond, length, refl, sym, ap, ap₂, ◌∙◌, subst, inl, inr, ⊎_elim, arith, true≢false, Option, Some, None, option_map}
+use Rattle.std.proofs.Common.{◌≡◌, ◌≢◌, ℕ, ◌^◌, ◌<◌, ◌≤◌, ltb, List, [], ◌∷◌, ◌++◌, map, filter, Bool, true, false, not, ◌&&◌, cond, length, refl, sym, ap, ap₂, ◌∙◌, subst, inl, inr, arith, Option, Some, None, option_map}
 use Rattle.std.specs.Prelude.{is_some}
 use Rattle.std.proofs.lemmas.Bool.{ltb-false}
 use Rattle.std.specs.List.{list_any}
@@ -17,7 +17,7 @@ use Rattle.deneva_base.specs.declared.answers.Answer.TheVariants.{Granted, Waits
 use Rattle.deneva_base.specs.declared.answers.Vote.TheVariants.{Yes}
 use Rattle.deneva_base.specs.declared.answers.Wake.{Wake}
 use Rattle.deneva_base.specs.Conditions.{MayAsk, MayPrepare, MayCommit, MayAbort, Distinct}
-use Rattle.deneva_base.specs.History.{Ask, Prepare, Commit, Abort, History, Asked, asks, grants, waits, yeas, is_woken, IsUnended}
+use Rattle.deneva_base.specs.History.{Ask, Commit, Abort, History, Asked, waits, yeas, is_woken, IsUnended}
 use Rattle.deneva_base.specs.Keys.{loaded_version}
 use Rattle.deneva_base.specs.Latest.{Version, latest, row_for, seen, writes_in}
 use Rattle.deneva_base.specs.Leaving.{rows_left}
@@ -25,7 +25,6 @@ use Rattle.deneva_base.specs.Lists.{IsIn, sort}
 use Rattle.deneva_base.specs.Modes.{reads, writes, IsReading}
 use Rattle.deneva_base.specs.Order.{by_rising_stamp}
 use Rattle.deneva_base.specs.Rows.{Row, Rows}
-use Rattle.deneva_base.specs.Rules.{Rule, Obeys}
 use Rattle.deneva_base.specs.Timestamp.{timestamp, top_written, top_read}
 use Rattle.deneva_base.specs.Versions.{version_of as written_as, written, start, greatest, below}
 use Rattle.deneva_base.specs.Waiting.{this, holders, holds, older_writer, granted_with, wake_of, goes, wakes}
@@ -51,14 +50,13 @@ use Rattle.stamp_lines.specs.Standing.{owner_of}
 use Rattle.stamp_lines.specs.Tables.{requests_at, part_of}
 use Rattle.stamp_lines.proofs.Asking.{none_here}
 use Rattle.stamp_lines.proofs.Calls.{fresh_tracks as no_accesses, few_wait, vote_stamp}
-use Rattle.stamp_lines.proofs.Ending.{Closes, commit_closes, abort_closes, waits_same}
+use Rattle.stamp_lines.proofs.Ending.{Closes, commit_closes, abort_closes}
 use Rattle.stamp_lines.proofs.Waking.{to_waiter, Wakens}
-use Rattle.stamp_control.specs.declared.pasts.Pasts.{Pasts}
 use Rattle.stamp_control.specs.declared.table.Table.{Table}
 use Rattle.stamp_control.specs.Picks.{pick}
 use Rattle.stamp_control.specs.Pasts.{Kept, past_at}
 use Rattle.stamp_control.specs.Fronts.{front_over}
-use Rattle.stamp_control.specs.Changes.{read_in, written_in, refusal_in, writers_in, pick_after, version_or_empty, wake_for, IsFresh, Grants, LetsWait, Promises, Ends, Wakes, EndsAndWakes}
+use Rattle.stamp_control.specs.Changes.{read_in, written_in, refusal_in, writers_in, pick_after, version_or_empty, wake_for, IsFresh, Grants, LetsWait, Ends, Wakes, EndsAndWakes}
 use Rattle.stamp_control.specs.Standing.{state_of, version_of, Tracks, Stands}
 use Rattle.stamp_control.proofs.Asking.{granted_tracks, waits_tracks, refused_tracks, reads_latest}
 use Rattle.stamp_control.proofs.Counting.{writers_one_less}

@@ -1,7 +1,5 @@
 -- The table tracks the history with one more Prepare, and with the end of an attempt that wakes nobody.
-use Rattle.std.proofs.Common.{◌≡◌, ◌≢◌, ◌⊎◌, ℕ, ◌+◌, ◌-◌, ◌≤◌, ◌<◌, List, [], ◌∷◌, ◌++◌, filter, Bool, true, false, cond, ltb, ◌&&◌, length, refl, sym, ap, ◌∙◌, subst, inl, inr, ⊎_elim, arith, true≢false, Option, Some, None, option_map}
-use Rattle.std.proofs.lemmas.Bool.{lt-ltb, ltb-true}
-use Rattle.std.proofs.lemmas.Bool.Decides.{nat_tests}
+use Rattle.std.proofs.Common.{◌≡◌, ◌≢◌, ℕ, ◌-◌, ◌≤◌, List, [], ◌∷◌, ◌++◌, filter, Bool, true, false, cond, ltb, ◌&&◌, length, refl, sym, ap, ◌∙◌, subst, ⊎_elim, arith, true≢false, Option, Some, None, option_map}
 use Rattle.std.specs.FinMap.{get}
 use Rattle.deneva_base.specs.declared.keys.Key.{Key}
 use Rattle.deneva_base.specs.declared.numbers.Attempt.{Attempt}
@@ -15,7 +13,6 @@ use Rattle.deneva_base.specs.Keys.{key_eq, number_lt}
 use Rattle.deneva_base.specs.Latest.{Version, row_for, writes_in, latest, newer}
 use Rattle.deneva_base.specs.Leaving.{later as later_row, left_in}
 use Rattle.deneva_base.specs.Lists.{IsIn}
-use Rattle.deneva_base.specs.Modes.{writes}
 use Rattle.deneva_base.specs.Rows.{Row, Rows}
 use Rattle.deneva_base.specs.Timestamp.{top_read}
 use Rattle.deneva_base.specs.Versions.{version_of as written_as, written, start, greatest, later, below}
@@ -24,26 +21,23 @@ use Rattle.deneva_base.proofs.Known.{Known}
 use Rattle.deneva_base.proofs.Marks.{Marked}
 use Rattle.deneva_base.proofs.Sound.{Sound, row_found, writes_found}
 use Rattle.deneva_base.proofs.Traced.{Traced}
-use Rattle.deneva_base.proofs.Words.{any_at, and_true, in_cases, writing_decides}
+use Rattle.deneva_base.proofs.Words.{any_at, in_cases, writing_decides}
 use Rattle.row_store.specs.declared.versions.Version.{Version as StoredVersion}
-use Rattle.row_store.specs.Stores.{version_at}
 use Rattle.control_core.specs.Leaving.{last}
-use Rattle.control_core.proofs.Lasts.{appends_in}
 use Rattle.stamp_lines.specs.declared.requests.Request.{Request}
 use Rattle.stamp_lines.specs.Requests.{without}
-use Rattle.stamp_lines.specs.Standing.{Seen, seen_of, owner_of, waiter_of, Tracks as TracksAccesses}
-use Rattle.stamp_lines.specs.Tables.{Holding}
+use Rattle.stamp_lines.specs.Standing.{owner_of, waiter_of, Tracks as TracksAccesses}
 use Rattle.stamp_lines.proofs.Asking.{same_tracks}
 use Rattle.stamp_lines.proofs.Ending.{prepared, Closes, commit_closes, abort_closes, requests_left, closed_tracks}
 use Rattle.stamp_control.specs.declared.table.Table.{Table}
-use Rattle.stamp_control.specs.Picks.{newer_than, offer, pick}
+use Rattle.stamp_control.specs.Picks.{offer, pick}
 use Rattle.stamp_control.specs.Pasts.{Kept, past_at, with_version}
 use Rattle.stamp_control.specs.Changes.{writers_in, any_above, kept_by, kept_left, offered, Promises, MayReserve, Ends}
 use Rattle.stamp_control.specs.Standing.{State, state_of, version_of, IsPast, promised_in, Tracks}
 use Rattle.stamp_control.proofs.Counting.{writers_less, writers_one_less}
-use Rattle.stamp_control.proofs.Histories.{commit_apart, votes_distinct, writes_distinct}
+use Rattle.stamp_control.proofs.Histories.{commit_apart}
 use Rattle.stamp_control.proofs.Keeping.{kept_once, kept_row}
-use Rattle.stamp_control.proofs.Picks.{lt_irrefl, lt_le, le_lt, le_le, lt_not, pick_more}
+use Rattle.stamp_control.proofs.Picks.{lt_irrefl, le_lt, lt_not, pick_more}
 use Rattle.stamp_control.proofs.Promising.{unended_test, Apart, promised_less, committed_version}
 
 -- it votes Yes

@@ -1,12 +1,10 @@
 -- What a history under the rule says of the versions of a key.
-use Rattle.std.proofs.Common.{◌≡◌, ◌≢◌, ◌⊎◌, ℕ, max, ◌≤◌, ◌<◌, List, [], ◌∷◌, ◌++◌, filter, Bool, true, false, cond, ltb, refl, sym, ap, ◌∙◌, subst, inl, inr, ⊎_elim, arith, Option, Some, None}
+use Rattle.std.proofs.Common.{◌≡◌, ◌≢◌, ℕ, max, ◌≤◌, List, [], ◌∷◌, ◌++◌, filter, Bool, true, false, cond, ltb, refl, sym, ap, ◌∙◌, subst, inl, inr, ⊎_elim, arith, Option, Some, None}
 use Rattle.std.proofs.lemmas.Bool.{lt-ltb}
 use Rattle.std.proofs.lemmas.Bool.Decides.{nat_tests}
 use Rattle.deneva_base.specs.declared.keys.Key.{Key}
-use Rattle.deneva_base.specs.declared.keys.Mode.{Mode}
 use Rattle.deneva_base.specs.declared.numbers.Attempt.{Attempt}
 use Rattle.deneva_base.specs.declared.numbers.Number.{Number}
-use Rattle.deneva_base.specs.declared.rows.Keyed.{Keyed}
 use Rattle.deneva_base.specs.declared.answers.Vote.TheVariants.{Yes, No}
 use Rattle.deneva_base.specs.Conditions.{MayAsk, MayCommit, Distinct}
 use Rattle.deneva_base.specs.History.{Ask, Prepare, Commit, Abort, History, Asked, Yea, Decided, asks, yeas, decided, aborted, ended, Writes}
@@ -15,13 +13,12 @@ use Rattle.deneva_base.specs.Latest.{Version, row_for, writes_in, latest, newer}
 use Rattle.deneva_base.specs.Lists.{IsIn, greatest_by}
 use Rattle.deneva_base.specs.Rows.{Row, Rows}
 use Rattle.deneva_base.specs.Rules.{Rule, Obeys}
-use Rattle.deneva_base.specs.Timestamp.{timestamp, top_written}
-use Rattle.deneva_base.specs.Versions.{version_of, written, start, later, greatest, below}
-use Rattle.deneva_base.specs.Windows.{IsVersion}
-use Rattle.deneva_base.proofs.Belows.{Listed, listed}
-use Rattle.deneva_base.proofs.Known.{Known, known}
-use Rattle.deneva_base.proofs.Marks.{Marked, marked, stamps_differ}
-use Rattle.deneva_base.proofs.Sound.{Sound, sound, row_found, writes_found}
+use Rattle.deneva_base.specs.Timestamp.{top_written}
+use Rattle.deneva_base.specs.Versions.{version_of, written, start, greatest, below}
+use Rattle.deneva_base.proofs.Belows.{Listed}
+use Rattle.deneva_base.proofs.Known.{Known}
+use Rattle.deneva_base.proofs.Marks.{Marked, stamps_differ}
+use Rattle.deneva_base.proofs.Sound.{Sound, row_found, writes_found}
 use Rattle.deneva_base.proofs.Timestamps.{top_by}
 use Rattle.deneva_base.proofs.Traced.{Traced}
 use Rattle.deneva_base.proofs.Words.{attempt_tells}

@@ -1,5 +1,5 @@
 -- Whether somebody is let go.
-use Rattle.std.proofs.Common.{◌≡◌, ℕ, ◌+◌, ◌<◌, List, [], ◌∷◌, ◌++◌, map, filter, length, drop, get_or, Bool, true, false, cond, not, ◌&&◌, ◌||◌, refl, sym, ap, ◌∙◌, true≢false}
+use Rattle.std.proofs.Common.{◌≡◌, ℕ, ◌+◌, ◌<◌, List, [], ◌∷◌, ◌++◌, map, filter, length, drop, get_or, Bool, true, false, cond, not, ◌&&◌, ◌||◌, refl, sym, ◌∙◌, true≢false}
 use Rattle.std.proofs.lemmas.List.{at_drop_more}
 use Rattle.std.specs.List.{list_any}
 use Rattle.deneva_base.specs.declared.keys.Key.{Key}
@@ -8,7 +8,7 @@ use Rattle.deneva_base.specs.WaitDie.{none}
 use Rattle.stamp_lines.specs.declared.accesses.Accesses.{Accesses}
 use Rattle.stamp_lines.specs.Requests.{first_writer}
 use Rattle.stamp_lines.specs.Tables.{requests_at}
-use Rattle.stamp_control.specs.Fronts.{goes, front_at, front_over}
+use Rattle.stamp_control.specs.Fronts.{goes, front_over}
 
 none_filter : {A B : Type 0} (f : A → B) (p : A → Bool) (xs : List A) (ys : List B) → none (map f (filter p xs) ++ ys) ≡ (not (list_any p xs) && none ys)
 none_filter f p [] ys = refl

@@ -1,20 +1,20 @@
 -- Whom the table lets go is whom the rule wakes.
-use Rattle.std.proofs.Common.{◌≡◌, ◌≢◌, ◌⊎◌, ℕ, ◌≤◌, ltb, List, [], ◌∷◌, ◌++◌, map, filter, Bool, true, false, not, ◌&&◌, cond, length, refl, sym, ap, ap₂, ◌∙◌, subst, inl, inr, ⊎_elim, arith, true≢false}
+use Rattle.std.proofs.Common.{◌≡◌, ◌≤◌, ltb, List, [], ◌∷◌, ◌++◌, map, filter, Bool, true, false, not, ◌&&◌, cond, length, refl, sym, ap, ap₂, ◌∙◌, subst, inl, inr, ⊎_elim, arith, true≢false}
 use Rattle.std.proofs.lemmas.Bool.{lt-ltb}
 use Rattle.std.specs.List.{list_any}
 use Rattle.deneva_base.specs.declared.keys.Key.{Key}
 use Rattle.deneva_base.specs.declared.numbers.Attempt.{Attempt}
-use Rattle.deneva_base.specs.History.{History, Asked, Grant, asks, grants, waits, IsUnended}
+use Rattle.deneva_base.specs.History.{History, Asked, Grant, grants, waits, IsUnended}
 use Rattle.deneva_base.specs.Keys.{key_eq, attempt_eq}
 use Rattle.deneva_base.specs.Lists.{IsIn, sort}
 use Rattle.deneva_base.specs.Order.{by_rising_stamp}
 use Rattle.deneva_base.specs.Rows.{Rows}
-use Rattle.deneva_base.specs.Waiting.{as_asked, holders, older_writer, holds, goes as goes_by_rule}
+use Rattle.deneva_base.specs.Waiting.{holders, older_writer, holds, goes as goes_by_rule}
 use Rattle.deneva_base.proofs.Known.{Known}
 use Rattle.deneva_base.proofs.Sorts.{Distinct}
 use Rattle.deneva_base.proofs.Stops.{held_from}
 use Rattle.deneva_base.proofs.Traced.{Traced}
-use Rattle.deneva_base.proofs.Words.{and_true, and_parts, any_found, key_decides, attempt_decides}
+use Rattle.deneva_base.proofs.Words.{and_parts, any_found, key_decides, attempt_decides}
 use Rattle.stamp_lines.specs.declared.requests.Request.{Request}
 use Rattle.stamp_lines.specs.declared.lines.Waiter.{Waiter}
 use Rattle.stamp_lines.specs.declared.accesses.Accesses.{Accesses}
@@ -25,7 +25,7 @@ use Rattle.stamp_lines.proofs.Ending.{Closes}
 use Rattle.stamp_lines.proofs.Fronts.{asked_for, waiting_in, stopped_is, free_is, by_keys, by_keys_is}
 use Rattle.stamp_lines.proofs.Waking.{to_waiter, length_map, length_sort}
 use Rattle.stamp_lines.proofs.Calls.{length_filter}
-use Rattle.stamp_control.specs.Fronts.{goes, waiter_for, front_at, front_over}
+use Rattle.stamp_control.specs.Fronts.{goes, waiter_for, front_over}
 
 and_right : (b : Bool) → b ≡ (b && true)
 and_right true = refl

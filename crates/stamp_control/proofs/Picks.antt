@@ -112,7 +112,6 @@ pub pick_without : (stamp : ℕ) (best : Option Version) (xs ys : List Version) 
 pick_without stamp best xs ys u e =
     pick_more stamp best xs ys ∙ at (ltb u.number.n stamp) refl ∙ sym (pick_more stamp best xs (u ∷ ys))
   where
-
     step : newer_than (pick_from stamp best xs) u.number ≡ false → pick_from stamp (pick_from stamp best xs) ys ≡ pick_from stamp (offer stamp (pick_from stamp best xs) u) ys
     step f = go (ltb u.number.n stamp)
       where

@@ -7,7 +7,7 @@ use Rattle.stamp_lines.specs.Tables.{same_key}
 use Rattle.stamp_lines.proofs.Places.{same_tells}
 use Rattle.stamp_lines.specs.declared.lines.Waiter.{Waiter}
 use Rattle.stamp_control.specs.declared.pasts.Past.{Past}
-use Rattle.stamp_control.specs.Pasts.{Kept, past_of, past_in, no_past, granted_at, all_granted_at, Wider}
+use Rattle.stamp_control.specs.Pasts.{Kept, past_of, past_in, granted_at, all_granted_at, Wider}
 
 pub set_past : (es fs : List (Key × Past)) (key : Key) (new : Past) → ((other : Key) → lookup (same_key other) fs ≡ cond (same_key key other) (Some new) (lookup (same_key other) es)) → (other : Key) → past_in (lookup (same_key other) fs) ≡ cond (same_key key other) (past_of new) (past_in (lookup (same_key other) es))
 set_past es fs key new h other = ap past_in (h other) ∙ go (same_key key other)

@@ -1,5 +1,5 @@
 -- Rows that come under a number, and how many rows are promised to append.
-use Rattle.std.proofs.Common.{◌≡◌, ◌≢◌, ◌⊎◌, ℕ, ◌+◌, List, [], ◌∷◌, Bool, true, false, not, cond, length, refl, sym, ap, ◌∙◌, subst, inl, inr, ⊎_elim, arith, Option, Some, None, option_map, true≢false}
+use Rattle.std.proofs.Common.{◌≡◌, ◌≢◌, ◌+◌, List, [], ◌∷◌, Bool, true, false, not, cond, length, refl, sym, ap, ◌∙◌, subst, inl, inr, ⊎_elim, arith, Option, Some, None, option_map, true≢false}
 use Rattle.std.specs.List.{list_any}
 use Rattle.std.specs.Prelude.{⊤}
 use Rattle.deneva_base.specs.declared.keys.Key.{Key}
@@ -88,4 +88,3 @@ promised_less h h' who (y ∷ ys) e u a = ⊎_elim
     let same : has_ended h' y.who ≡ has_ended h y.who = ap (λ l. list_any (attempt_eq y.who) l) e ∙ rw f.0 refl in
     rw (same, f.0) (omega (arith, rest)))
     (attempt_tells y.who who)
-

@@ -1,16 +1,13 @@
 -- The table tracks the history whose last call woke these waiters, and what is left of it when versions are dropped.
-use Rattle.std.proofs.Common.{◌≡◌, ◌≢◌, ◌⊎◌, ℕ, max, ◌+◌, ◌≤◌, List, [], ◌∷◌, ◌++◌, map, filter, Bool, true, false, cond, ltb, ◌&&◌, length, refl, sym, ap, ap₂, ◌∙◌, subst, inl, inr, ⊎_elim, arith, true≢false, Option, Some, None, option_map}
+use Rattle.std.proofs.Common.{◌≡◌, ℕ, max, ◌+◌, List, [], ◌∷◌, ◌++◌, map, filter, Bool, true, cond, ◌&&◌, length, refl, sym, ap, ap₂, ◌∙◌, subst, inl, inr, arith, Some, option_map}
 use Rattle.deneva_base.specs.declared.keys.Key.{Key}
-use Rattle.deneva_base.specs.declared.keys.Mode.{Mode}
-use Rattle.deneva_base.specs.declared.numbers.Attempt.{Attempt}
-use Rattle.deneva_base.specs.declared.answers.Wake.{Wake}
 use Rattle.deneva_base.specs.History.{History, Asked, Grant, Yea, asks, grants, waits, yeas, ended, grant_of, grant_of_wake}
 use Rattle.deneva_base.specs.Keys.{key_eq}
-use Rattle.deneva_base.specs.Latest.{Version, latest, has_ended}
+use Rattle.deneva_base.specs.Latest.{Version, latest}
 use Rattle.deneva_base.specs.Lists.{IsIn, greatest_by, sort}
 use Rattle.deneva_base.specs.Modes.{reads}
 use Rattle.deneva_base.specs.Order.{by_rising_stamp}
-use Rattle.deneva_base.specs.Rows.{Row, Rows}
+use Rattle.deneva_base.specs.Rows.{Rows}
 use Rattle.deneva_base.specs.Timestamp.{top_read}
 use Rattle.deneva_base.specs.Versions.{below}
 use Rattle.deneva_base.specs.Waiting.{wake_of}
@@ -20,19 +17,17 @@ use Rattle.deneva_base.proofs.Known.{Known}
 use Rattle.deneva_base.proofs.Traced.{asked_found}
 use Rattle.deneva_base.proofs.Words.{filter_in, key_decides}
 use Rattle.deneva_base.proofs.Sorts.{sort_in}
-use Rattle.row_store.specs.declared.versions.Version.{Version as StoredVersion}
 use Rattle.row_store.specs.Stores.{version_at}
 use Rattle.row_store.proofs.Tables.{same_key-key_eq}
 use Rattle.control_core.specs.Leaving.{last}
-use Rattle.stamp_lines.specs.declared.requests.Request.{Request}
 use Rattle.stamp_lines.specs.declared.lines.Waiter.{Waiter}
 use Rattle.stamp_lines.specs.declared.accesses.Accesses.{Accesses}
-use Rattle.stamp_lines.specs.Standing.{Seen, seen_of, waiter_of, Tracks as TracksAccesses}
+use Rattle.stamp_lines.specs.Standing.{seen_of, waiter_of, Tracks as TracksAccesses}
 use Rattle.stamp_lines.specs.Tables.{requests_at, same_key}
 use Rattle.stamp_lines.proofs.Waking.{to_waiter, Wakens, still_waits, wake_tracks}
 use Rattle.stamp_control.specs.declared.table.Table.{Table}
 use Rattle.stamp_control.specs.Picks.{pick}
-use Rattle.stamp_control.specs.Pasts.{Kept, past_at, raised, granted_at, all_granted_at}
+use Rattle.stamp_control.specs.Pasts.{Kept, granted_at, all_granted_at}
 use Rattle.stamp_control.specs.Changes.{writers_in, Wakes, Trimmed}
 use Rattle.stamp_control.specs.Standing.{State, state_of, version_of, IsPastOf, promised_in, Tracks}
 use Rattle.stamp_control.proofs.Asking.{granted_versions, granted_spare, granted_present, granted_read}

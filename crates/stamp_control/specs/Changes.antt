@@ -23,7 +23,6 @@ use Rattle.stamp_control.specs.declared.pasts.Pasts.{Pasts}
 use Rattle.stamp_control.specs.declared.table.Table.{Table}
 use Rattle.stamp_control.specs.Picks.{offer, pick}
 use Rattle.stamp_control.specs.Pasts.{Kept, no_past, past_at, with_version, with_latest, granted_at, all_granted_at, SetsPast, Widens, HasRoom, Trims}
-use Rattle.stamp_control.specs.Fronts.{waiter_for}
 
 -- what an access reads where its key has this version
 abbrev pub read_in : Mode → Option Version → List Cell × Number

@@ -1,5 +1,4 @@
-use Rattle.std.proofs.Common.{rules, ◌≡◌, ◌<◌, ◌≤◌, length, refl, sym, ap, ◌∙◌, arith, vec_len}
-use Rattle.std.specs.Prelude.{vec_capacity}
+use Rattle.std.proofs.Common.{rules, ◌<◌, length, refl, sym, ap, ◌∙◌, arith}
 use Rattle.row_store.specs.declared.versions.Version.{Version}
 use Rattle.stamp_control.specs.Picks.{is_needed}
 use Rattle.stamp_control.specs.Pasts.{past_of}

@@ -31,4 +31,35 @@ returns-in-Some-clause-stands c loaded h stands may = record {
 }
 
 pub returns-then-is_stopped-clause-answer : goal.returns-then-is_stopped-clause-answer
-returns-then-is_stopped-clause-answer c = let a = c.in_default.ensures in let b = c.refusal.ensures in let d = c.in_default.is in ?
+returns-then-is_stopped-clause-answer c =
+    IfOk-weaker c.wait.result _ _ (λ a e loaded h stands may. e ∙ wait_is c.args.self.now.table loaded h stands c.args.who c.args.stamp c.args.key c.args.mode may (sym c.in_default.ensures) (sym c.is_stopped.ensures ∙ c.if-is_stopped.true)) c.wait.ensures.answer
+
+pub returns-then-is_stopped-clause-stands : goal.returns-then-is_stopped-clause-stands
+returns-then-is_stopped-clause-stands c =
+    both c.wait.result _ _ _
+    (λ a e changes loaded h stands may. record {
+      obeys = (may, e ∙ wait_is c.args.self.now.table loaded h stands c.args.who c.args.stamp c.args.key c.args.mode may (sym c.in_default.ensures) (sym c.is_stopped.ensures ∙ c.if-is_stopped.true), stands.obeys);
+      tracks = subst (λ (x : Answer). Tracks loaded (state_of c.wait.new.self) (Ask c.args.who c.args.stamp c.args.key c.args.mode x ∷ h)) (sym e) (wait_tracks c.args.self.now.table loaded h stands c.args.who c.args.stamp c.args.key c.args.mode may (sym c.in_default.ensures) c.wait.new.self (sym c.is_stopped.ensures ∙ c.if-is_stopped.true) changes);
+    })
+    c.wait.ensures.answer c.wait.ensures.ok
+
+pub returns-then-is_stopped-clause-same : goal.returns-then-is_stopped-clause-same
+returns-then-is_stopped-clause-same c =
+    on_err_weaker c.wait.result (λ e loaded h stands. record { obeys = stands.obeys; tracks = widened loaded h c.args.self.now.table c.wait.new.self stands.tracks e }) c.wait.ensures.err
+
+pub returns-else-is_stopped-clause-answer : goal.returns-else-is_stopped-clause-answer
+returns-else-is_stopped-clause-answer c =
+    IfOk-weaker c.grant.result _ _ (λ a e loaded h stands may. e ∙ grant_is c.args.self.now.table loaded h stands c.args.who c.args.stamp c.args.key c.args.mode may (sym c.in_default.ensures) (sym c.is_stopped.ensures ∙ c.if-is_stopped.false)) c.grant.ensures.answer
+
+pub returns-else-is_stopped-clause-stands : goal.returns-else-is_stopped-clause-stands
+returns-else-is_stopped-clause-stands c =
+    both c.grant.result _ _ _
+    (λ a e changes loaded h stands may. record {
+      obeys = (may, e ∙ grant_is c.args.self.now.table loaded h stands c.args.who c.args.stamp c.args.key c.args.mode may (sym c.in_default.ensures) (sym c.is_stopped.ensures ∙ c.if-is_stopped.false), stands.obeys);
+      tracks = subst (λ (x : Answer). Tracks loaded (state_of c.grant.new.self) (Ask c.args.who c.args.stamp c.args.key c.args.mode x ∷ h)) (sym e) (grant_tracks c.args.self.now.table loaded h stands c.args.who c.args.stamp c.args.key c.args.mode may c.grant.new.self _ _ _ changes);
+    })
+    c.grant.ensures.answer c.grant.ensures.ok
+
+pub returns-else-is_stopped-clause-same : goal.returns-else-is_stopped-clause-same
+returns-else-is_stopped-clause-same c =
+    on_err_weaker c.grant.result (λ e loaded h stands. record { obeys = stands.obeys; tracks = widened loaded h c.args.self.now.table c.grant.new.self stands.tracks e }) c.grant.ensures.err

@@ -1,4 +1,4 @@
-use Rattle.std.proofs.Common.{◌≡◌, [], refl, sym, subst, rules, arith, List}
+use Rattle.std.proofs.Common.{◌≡◌, [], sym, subst, rules, List}
 use Rattle.stamp_lines.specs.declared.lines.Waiter.{Waiter}
 use Rattle.stamp_lines.specs.Tables.{part_of}
 use Rattle.stamp_control.specs.Fronts.{front_over}
