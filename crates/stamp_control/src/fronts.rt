@@ -29,6 +29,17 @@ fn any_goes(requests: &[Request], first: Option<u64>) -> bool
     false
 }
 
+fn waiter_for(key: Key, request: &Request) -> Waiter
+    ensures { result ≡ waiter_for key request.now }
+{
+    Waiter {
+        who: request.who,
+        stamp: request.stamp,
+        key,
+        mode: request.mode,
+    }
+}
+
 /// Puts those of the requests for a key that go at the end.
 fn push_front(
     front: &mut Vec<Waiter>,
@@ -40,12 +51,7 @@ fn push_front(
 {
     for request in requests {
         if goes(request, first) {
-            front.push(Waiter {
-                who: request.who,
-                stamp: request.stamp,
-                key,
-                mode: request.mode,
-            })?;
+            front.push(waiter_for(key, request))?;
         }
     }
     Ok(())
