@@ -11,6 +11,7 @@ use node_core::Node;
 use range_control::Ranges;
 use report::outcome_of;
 use server_core::{History, Outcome, Schedule, Server, runs_are_right};
+use stamp_control::Stamps;
 use std::alloc::Global;
 use txn_program::Workload;
 use world::{World, run_all};
@@ -28,7 +29,7 @@ pub fn is_built(protocol: Protocol) -> bool
 {
     matches!(
         protocol,
-        Protocol::NoWait | Protocol::WaitDie | Protocol::Maat
+        Protocol::NoWait | Protocol::WaitDie | Protocol::Timestamp | Protocol::Maat
     )
 }
 
@@ -68,7 +69,8 @@ pub fn replay(
     match config.protocol {
         Protocol::NoWait => run_in::<Node<Locks<0>>>(alloc, config, work, schedule),
         Protocol::WaitDie => run_in::<Node<Locks<1>>>(alloc, config, work, schedule),
+        Protocol::Timestamp => run_in::<Node<Stamps>>(alloc, config, work, schedule),
         Protocol::Maat => run_in::<Node<Ranges<4096>>>(alloc, config, work, schedule),
-        Protocol::Timestamp | Protocol::Mvcc | Protocol::Calvin => unreachable!(),
+        Protocol::Mvcc | Protocol::Calvin => unreachable!(),
     }
 }
