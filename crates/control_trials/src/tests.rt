@@ -7,6 +7,7 @@ use deneva_base::{
 };
 use lock_control::Locks;
 use range_control::Ranges;
+use stamp_control::Stamps;
 use std::alloc::Global;
 use std::test::Fail;
 
@@ -232,5 +233,36 @@ fn a_window_without_numbers_is_refused(rt: HostRuntime) -> Result<(), Fail> {
         said_to(alloc, &mut ranges, &steps)?.as_slice(),
         wanted.as_slice()
     );
+    Ok(())
+}
+
+#[test]
+fn a_put_goes_past_a_smaller_update(rt: HostRuntime) -> Result<(), Fail> {
+    let alloc = rt.alloc();
+    let mut stamps = Stamps::begin(two_rows(alloc)?)?;
+    let steps = [
+        Step::Ask(1, 1, 1, 0, Mode::Update),
+        Step::Ask(2, 1, 3, 0, Mode::Put),
+        Step::Ask(3, 1, 2, 0, Mode::Read),
+        Step::Write(2, 1, 0, 0, 7),
+        Step::Commit(2, 1, 3),
+        Step::Write(1, 1, 0, 0, 6),
+        Step::Commit(1, 1, 1),
+    ];
+    let wanted = [
+        granted(alloc, Some(100), (0, 0), 0)?,
+        granted(alloc, None, (0, 0), 0)?,
+        Said::Answer(Answer::Waits),
+        yes(3, 3),
+        ends(alloc, 1),
+        yes(1, 1),
+        wakes(alloc, 3, 6, (1, 1), 0)?,
+    ];
+    assert_eq!(rt;
+        said_to(alloc, &mut stamps, &steps)?.as_slice(),
+        wanted.as_slice()
+    );
+    let rows = stamps.rows()?;
+    assert_eq!(rt; rows.get(0).row, row_of(alloc, Some(7))?);
     Ok(())
 }
