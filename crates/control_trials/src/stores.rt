@@ -3,7 +3,7 @@ ghost use Rattle.std.specs.Prelude.{◌≡◌, ◌<◌, IfOk};
 ghost use Rattle.control_core.specs.Leaving.{IsLoadedStore};
 ghost use Rattle.control_trials.specs.Trials.{HasTwoRows};
 
-use deneva_base::{Cell, Key, Keyed, NoMemory, Row, RowList};
+use deneva_base::{Cell, CellList, Key, Keyed, NoMemory, Row, RowList};
 use row_store::Store;
 use std::alloc::Global;
 
@@ -22,8 +22,9 @@ fn numbered(alloc: Global, a: u32) -> Result<Keyed, NoMemory>
     requires { a < 2 }
     ensures { IfOk result (λ r. r.key ≡ record { table = 0; a = a; b = 0; c = 0 }) }
 {
-    let mut row = Row::new(alloc);
-    row.push(Cell::Num(100 + a as i64))?;
+    let mut cells = CellList::new(alloc);
+    cells.push(Cell::Num(100 + a as i64))?;
+    let row = Row::of(alloc, cells)?;
     let key = Key {
         table: 0,
         a,

@@ -66,14 +66,7 @@ impl Attempting {
     }
 
     /// Takes in the reply to an access.
-    fn take(
-        &mut self,
-        alloc: Global,
-        access: Access,
-        key: Key,
-        row: &Row,
-        bound: u64,
-    ) -> Result<(), NoMemory>
+    fn take(&mut self, access: Access, key: Key, row: &Row, bound: u64) -> Result<(), NoMemory>
         requires { self.old.granted < 2 ^ 63 }
         ensures ok { OnOk result (state_of self.new ≡ taken access (record { row = row.now; bound = bound; key = key }) (state_of self.old)) }
         ensures err { OnErr result (state_of self.new ≡ state_of self.old) }
@@ -81,7 +74,7 @@ impl Attempting {
         if access.mode.is_reading() {
             self.rows.push(Keyed {
                 key: access.key,
-                row: row.copy(alloc)?,
+                row: row.share()?,
             })?;
         }
         self.bound = greater_bound(self.bound, bound, key, self.granted == 0);
@@ -167,7 +160,7 @@ impl Attempting {
         }
         let access = *self.accesses.get(self.granted);
         let best = self.bound;
-        self.take(home.alloc, access, key, row, bound)?;
+        self.take(access, key, row, bound)?;
         match self.go_on(home, who, out) {
             Ok(()) => Ok(()),
             Err(error) => {

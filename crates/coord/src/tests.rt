@@ -6,8 +6,8 @@ ghost use Rattle.coord.specs.Trials.{FitInTurn, one_field, one_read, two_reads};
 
 use crate::Coord;
 use deneva_base::{
-    Attempt, ByteList, Cause, Cell, Config, Key, Keyed, Mode, NoMemory, Protocol, Row, RowList,
-    TxnId,
+    Attempt, ByteList, Cause, Cell, CellList, Config, Key, Keyed, Mode, NoMemory, Protocol, Row,
+    RowList, TxnId,
 };
 use server_core::{Mail, Msg, Outbox};
 use std::alloc::Global;
@@ -33,8 +33,9 @@ const fn attempt(txn: u32, turn: u8) -> Attempt
 fn row_of(alloc: Global, a: u32) -> Result<Keyed, NoMemory>
     ensures { IfOk result (λ r. r ≡ one_field a) }
 {
-    let mut row = Row::new(alloc);
-    row.push(Cell::Text(ByteList::new(alloc)))?;
+    let mut cells = CellList::new(alloc);
+    cells.push(Cell::Text(ByteList::new(alloc)))?;
+    let row = Row::of(alloc, cells)?;
     let key = Key {
         table: 0,
         a,

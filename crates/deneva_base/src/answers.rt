@@ -44,8 +44,8 @@ pub struct Wake {
 }
 
 impl Copied for Wake {
-    fn copied(&self, alloc: Global) -> Result<Wake, NoMemory> {
-        let row = self.row.copy(alloc)?;
+    fn copied(&self, _alloc: Global) -> Result<Wake, NoMemory> {
+        let row = self.row.share()?;
         Ok(Wake {
             who: self.who,
             key: self.key,

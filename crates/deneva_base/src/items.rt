@@ -139,15 +139,22 @@ impl<T: Drop> Items<T> {
 }
 
 impl<T: Copied> Items<T> {
+    /// The list of a copy of each item.
+    pub fn copy_of(alloc: Global, items: &[T]) -> Result<Items<T>, NoMemory>
+        ensures { IfOk result (λ l. l ≡ items.now) }
+    {
+        let mut copies = Vec::with_capacity(alloc, items.len())?;
+        for item in items {
+            copies.push(item.copied(alloc)?)?;
+        }
+        Ok(Items { items: copies })
+    }
+
     /// A copy of the list and of each item.
     pub fn copy(&self, alloc: Global) -> Result<Items<T>, NoMemory>
         ensures { IfOk result (λ l. l ≡ self.now) }
     {
-        let mut items = Vec::with_capacity(alloc, self.items.len())?;
-        for item in &self.items {
-            items.push(item.copied(alloc)?)?;
-        }
-        Ok(Items { items })
+        Items::copy_of(alloc, &self.items)
     }
 }
 

@@ -12,6 +12,7 @@ mod memory;
 mod numbers;
 mod partitions;
 mod rows;
+mod shared;
 #[cfg(test)]
 mod tests;
 mod threads;
@@ -26,13 +27,18 @@ pub use memory::NoMemory;
 pub use numbers::{Attempt, Number, TxnId};
 pub use partitions::part_of;
 pub use rows::{Cell, Keyed};
+pub use shared::Shared;
 
 /// A text of any bytes, or the bytes of a file.
 pub type ByteList = Items<u8>;
 
+pub type CellList = Items<Cell>;
+
 pub type CountList = Items<u32>;
-/// The cells of a row, in the order of its table's columns.
-pub type Row = Items<Cell>;
+
+/// The cells of a row, in the order of its table's columns. What a row holds stands in memory once, however many reads,
+/// messages and versions show it.
+pub type Row = Shared<Cell>;
 
 pub type RowList = Items<Keyed>;
 

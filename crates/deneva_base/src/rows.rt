@@ -35,8 +35,8 @@ pub struct Keyed {
 }
 
 impl Copied for Keyed {
-    fn copied(&self, alloc: Global) -> Result<Keyed, NoMemory> {
-        let row = self.row.copy(alloc)?;
+    fn copied(&self, _alloc: Global) -> Result<Keyed, NoMemory> {
+        let row = self.row.share()?;
         Ok(Keyed { key: self.key, row })
     }
 }

@@ -39,14 +39,16 @@ fn byte_lists_grow(rt: HostRuntime) -> Result<(), Fail> {
 
 #[test]
 fn copies_are_equal(rt: HostRuntime) -> Result<(), Fail> {
-    let mut row = Row::new(rt.alloc());
-    row.push(Cell::Num(-5))?;
-    row.push(Cell::Text(ByteList::from_bytes(rt.alloc(), b"x")?))?;
+    let mut cells = CellList::new(rt.alloc());
+    cells.push(Cell::Num(-5))?;
+    cells.push(Cell::Text(ByteList::from_bytes(rt.alloc(), b"x")?))?;
+    let row = Row::of(rt.alloc(), cells)?;
+    assert_eq!(rt; Row::empty(rt.alloc())?.len(), 0);
     let keyed = Keyed { key: ycsb(3), row };
     let copy = keyed.copied(rt.alloc())?;
     assert_eq!(rt; copy.key, ycsb(3));
     assert_eq!(rt; copy.row.len(), 2);
-    assert_eq!(rt; *copy.row.get(0), Cell::Num(-5));
+    assert_eq!(rt; copy.row.as_slice()[0], Cell::Num(-5));
     assert_eq!(rt; copy, keyed);
     let access = Access {
         key: ycsb(4),

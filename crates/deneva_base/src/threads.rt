@@ -2,13 +2,14 @@
 
 use crate::{
     Access, Answer, Attempt, Bound, Cause, Cell, Config, Items, Key, Keyed, Mode, NoMemory, Number,
-    Protocol, PushNoMemory, TxnId, Vote, Wake,
+    Protocol, PushNoMemory, Shared, TxnId, Vote, Wake,
 };
 
 fn crosses<X: Send + Sync>() {}
 
 fn cross<X: Send + Sync>() {
     crosses::<Items<X>>();
+    crosses::<Shared<X>>();
 }
 
 /// Each type may be moved to another thread and shared between threads.

@@ -13,13 +13,13 @@ use txn_program::{
     Effect, SerialList, SerialRun, SerialTxn, Verdict, Workload, accesses_of, effect_of,
 };
 
-/// A copy of the row of a key, or a row of no cells where the key is absent.
+/// The row of a key, or a row of no cells where the key is absent.
 fn row_of(alloc: Global, rows: &BTreeMap<Key, Row>, key: Key) -> Result<Row, NoMemory>
     ensures { IfOk result (λ row. row ≡ row_at (rows_in rows.now.entries) key) }
 {
     match rows.get(&key) {
-        Some(row) => row.copy(alloc),
-        None => Ok(Row::new(alloc)),
+        Some(row) => row.share(),
+        None => Row::empty(alloc),
     }
 }
 

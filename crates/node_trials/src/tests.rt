@@ -11,7 +11,7 @@ use crate::asked::{
 use crate::steps::Step;
 use crate::works::row;
 use deneva_base::{
-    Attempt, Bound, ByteList, Cell, Keyed, Mode, NoMemory, Number, Row, RowList, TxnId,
+    Attempt, Bound, ByteList, Cell, CellList, Keyed, Mode, NoMemory, Number, Row, RowList, TxnId,
 };
 use server_core::{Mail, Msg, Outbox};
 use std::alloc::Global;
@@ -43,8 +43,9 @@ fn mail(to: u8, msg: Msg) -> Mail {
 fn written(alloc: Global, numbers: &[u32]) -> Result<RowList, NoMemory> {
     let mut rows = RowList::new(alloc);
     for number in numbers {
-        let mut row = Row::new(alloc);
-        row.push(Cell::Text(ByteList::from_bytes(alloc, b"x")?))?;
+        let mut cells = CellList::new(alloc);
+        cells.push(Cell::Text(ByteList::from_bytes(alloc, b"x")?))?;
+        let row = Row::of(alloc, cells)?;
         rows.push(Keyed {
             key: ycsb_key_of(*number),
             row,

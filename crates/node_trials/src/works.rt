@@ -3,7 +3,7 @@ ghost use Rattle.std.specs.Prelude.{◌≡◌, map, IfOk};
 ghost use Rattle.txn_program.specs.declared.programs.Program.TheVariants.{Ycsb};
 ghost use Rattle.node_trials.specs.Works.{trial_row, trial_step, trial_work};
 
-use deneva_base::{ByteList, Cell, Keyed, NoMemory, Row, RowList};
+use deneva_base::{ByteList, Cell, CellList, Keyed, NoMemory, Row, RowList};
 use std::alloc::Global;
 use txn_program::{
     Load, Program, ProgramList, StepList, WorkKind, Workload, YcsbAct, YcsbPut, YcsbStep,
@@ -14,9 +14,10 @@ use txn_program::{
 pub(crate) fn row(alloc: Global, number: u32) -> Result<Keyed, NoMemory>
     ensures { IfOk result (λ r. r ≡ trial_row number) }
 {
-    let mut row = Row::new(alloc);
+    let mut cells = CellList::new(alloc);
     let text = ByteList::from_bytes(alloc, b"a")?;
-    row.push(Cell::Text(text))?;
+    cells.push(Cell::Text(text))?;
+    let row = Row::of(alloc, cells)?;
     Ok(Keyed {
         key: ycsb_key_of(number),
         row,

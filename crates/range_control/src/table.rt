@@ -52,12 +52,11 @@ impl Table {
     fn read(&self, key: Key, mode: Mode) -> Result<(Row, Number), NoMemory>
         ensures { IfOk result (λ r. r ≡ read_in mode (version_at self.now.store key)) }
     {
-        let alloc = self.store.allocator();
         match self.store.version(key) {
-            Some(version) if mode.is_reading() => Ok((version.row.copy(alloc)?, version.number)),
+            Some(version) if mode.is_reading() => Ok((version.row.share()?, version.number)),
             _ => {
                 let number = Number { n: 0, id: TxnId(0) };
-                Ok((Row::new(alloc), number))
+                Ok((Row::empty(self.store.allocator())?, number))
             }
         }
     }

@@ -2,7 +2,7 @@
 use Rattle.std.specs.Prelude.{◌≡◌, Bool, true, false, reverse}
 use Rattle.deneva_base.specs.declared.config.Config.{Config}
 use Rattle.deneva_base.specs.declared.config.Protocol.{Protocol}
-use Rattle.deneva_base.specs.declared.config.Protocol.TheVariants.{NoWait, WaitDie}
+use Rattle.deneva_base.specs.declared.config.Protocol.TheVariants.{NoWait, WaitDie, Timestamp, Maat}
 use Rattle.txn_program.specs.declared.programs.Workload.{Workload}
 use Rattle.server_core.specs.Atomic.{IsAtomic}
 use Rattle.server_core.specs.IsSerial.{IsSerial}
@@ -17,6 +17,8 @@ use Rattle.replay.specs.declared.runs.Ran.{Ran}
 abbrev pub is_built : Protocol → Bool
 is_built NoWait = true
 is_built WaitDie = true
+is_built Timestamp = true
+is_built Maat = true
 is_built p = false
 
 -- the run that the schedule picks, which has nothing in flight after it, and its outcome: its decided transactions,

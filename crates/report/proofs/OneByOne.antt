@@ -68,6 +68,6 @@ module _ (r : Run) (H : List Entry) (ts : List Story) (ids : map (λ (t : Story)
     least_open k open' = record {
       known = k.known;
       undecided = λ d. open' (inl d);
-      kept = λ g. open' (inr g);
+      not_given_up = λ g. open' (inr g);
       least = λ y in' low. let is = ap (λ (z : TxnId). z.0) id_is in over y in' (omega (arith, low, is));
     }

@@ -17,7 +17,7 @@ use Rattle.server_core.specs.Setting.{home, parts_for, take_first}
 use Rattle.server_core.specs.declared.messages.Entry.{Entry}
 use Rattle.server_core.specs.declared.messages.Msg.{Msg}
 use Rattle.report.specs.Naming.{is_about, entries_of}
-use Rattle.report.specs.Rereads.{reply_of}
+use Rattle.report.specs.GrantedRows.{reply_of}
 use Rattle.report.specs.Stories.{Tells, setting_of}
 use Rattle.report.specs.declared.outcomes.run.Run.{Run}
 use Rattle.report.specs.declared.outcomes.stories.Story.{Story}

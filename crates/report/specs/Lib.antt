@@ -6,7 +6,7 @@ pub mod Outcomes
 pub mod Placed
 pub mod Records
 pub mod ReportText
-pub mod Rereads
+pub mod GrantedRows
 pub mod Seen
 pub mod SerialOutcome
 pub mod Stories

@@ -19,5 +19,5 @@ IsOver o x = IsDecided o x ⊎ IsGivenUp o x
 pub record IsLeastOpen (w : Workload) (o : Outcome) (x : TxnId) : Type 0 where
   pub known : IsIn x (all_ids w)
   pub undecided : IsDecided o x → ⊥
-  pub kept : IsGivenUp o x → ⊥
+  pub not_given_up : IsGivenUp o x → ⊥
   pub least : (y : TxnId) → IsIn y (all_ids w) → y.0 < x.0 → IsOver o y

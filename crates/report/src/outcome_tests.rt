@@ -2,8 +2,8 @@
 
 use super::*;
 use deneva_base::{
-    Attempt, Bound, ByteList, Cause, Cell, Config, IdList, Key, Keyed, Mode, NoMemory, Number,
-    Protocol, Row, RowList, TxnId,
+    Attempt, Bound, ByteList, Cause, Cell, CellList, Config, IdList, Key, Keyed, Mode, NoMemory,
+    Number, Protocol, Row, RowList, TxnId,
 };
 use server_core::{Entry, History, Msg};
 use std::alloc::Global;
@@ -34,11 +34,11 @@ end
 ";
 
 fn keyed_of(alloc: Global, key: u32, letter: u8) -> Result<Keyed, NoMemory> {
-    let mut row = Row::new(alloc);
-    row.push(Cell::Text(ByteList::from_bytes(alloc, &[letter])?))?;
+    let mut cells = CellList::new(alloc);
+    cells.push(Cell::Text(ByteList::from_bytes(alloc, &[letter])?))?;
     Ok(Keyed {
         key: ycsb_key_of(key),
-        row,
+        row: Row::of(alloc, cells)?,
     })
 }
 

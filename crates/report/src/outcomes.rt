@@ -34,8 +34,7 @@ use stories::{Story, stories_of};
 use txn_program::Workload;
 use voting::voting_outcome;
 
-/// What came of a run, all but the rows taken from its entries, which stand in the order of their places: the decided
-/// transactions in the order of their numbers, those given up, and the aborted attempts.
+/// What came of a run, all but the rows taken from its entries, which stand the oldest first: the decided transactions in the order of their numbers, those given up, and the aborted attempts.
 pub fn outcome_of(
     alloc: Global,
     config: Config,
@@ -85,7 +84,7 @@ fn least_open(run: Run<'_>, history: &[Entry]) -> Result<Option<TxnId>, NoMemory
     Ok(None)
 }
 
-/// The least transaction that is neither decided nor given up.
+/// The least transaction that is neither decided nor given up. Of a run with nothing in flight there is none.
 pub fn undecided(
     alloc: Global,
     config: Config,

@@ -2,7 +2,8 @@
 
 use super::*;
 use deneva_base::{
-    Attempt, ByteList, Cause, Cell, Key, Keyed, NoMemory, Number, Protocol, Row, RowList, TxnId,
+    Attempt, ByteList, Cause, Cell, CellList, Key, Keyed, NoMemory, Number, Protocol, Row, RowList,
+    TxnId,
 };
 use server_core::{AbortList, DecidedList, GiveupList};
 use std::alloc::Global;
@@ -50,13 +51,14 @@ fn keyed_of(
     text: Option<&str>,
     number: Option<i64>,
 ) -> Result<Keyed, NoMemory> {
-    let mut row = Row::new(alloc);
+    let mut cells = CellList::new(alloc);
     if let Some(text) = text {
-        row.push(Cell::Text(ByteList::from_bytes(alloc, text.as_bytes())?))?;
+        cells.push(Cell::Text(ByteList::from_bytes(alloc, text.as_bytes())?))?;
     }
     if let Some(number) = number {
-        row.push(Cell::Num(number))?;
+        cells.push(Cell::Num(number))?;
     }
+    let row = Row::of(alloc, cells)?;
     Ok(Keyed { key, row })
 }
 

@@ -119,7 +119,7 @@ impl Store {
     {
         let mut rows = Vec::with_capacity(self.alloc, self.versions.len())?;
         for (key, version) in &self.versions {
-            let row = version.row.copy(self.alloc)?;
+            let row = version.row.copied(self.alloc)?;
             rows.push(Keyed { key: *key, row })?;
         }
         rows.sort_by_key(|row| row.key)?;

@@ -2,7 +2,7 @@
 ghost use Rattle.std.specs.Prelude.{◌≡◌};
 
 use super::*;
-use deneva_base::{ByteList, Cell, Key, Keyed, Number, Row, RowList, TxnId};
+use deneva_base::{ByteList, Cell, CellList, Key, Keyed, Number, Row, RowList, TxnId};
 use std::alloc::Global;
 use std::test::Fail;
 
@@ -18,9 +18,9 @@ fn key(a: u32) -> Key
 }
 
 fn row(alloc: Global, text: &[u8]) -> Result<Row, Fail> {
-    let mut row = Row::new(alloc);
-    row.push(Cell::Text(ByteList::from_bytes(alloc, text)?))?;
-    Ok(row)
+    let mut cells = CellList::new(alloc);
+    cells.push(Cell::Text(ByteList::from_bytes(alloc, text)?))?;
+    Ok(Row::of(alloc, cells)?)
 }
 
 fn number(n: u64) -> Number {

@@ -102,7 +102,7 @@ fn reads_of(alloc: Global, list: &[Access], replies: &[Reply]) -> Result<Vec<Key
     };
     let mut all = reads_of(alloc, accesses, more)?;
     if access.mode.is_reading() {
-        let row = reply.row.copy(alloc)?;
+        let row = reply.row.share()?;
         all.insert(
             0,
             Keyed {

@@ -44,7 +44,7 @@ pub(crate) fn grants_for(
             bound,
             ..
         } if *by == who => {
-            let row = row.copy(alloc)?;
+            let row = row.share()?;
             all.push(Reply {
                 row,
                 bound: *bound,

@@ -1,6 +1,6 @@
 //! Small workloads, whose rows have one field with one letter.
 
-use deneva_base::{ByteList, Cell, Keyed, Row, RowList};
+use deneva_base::{ByteList, Cell, CellList, Keyed, Row, RowList};
 use std::alloc::Global;
 use std::test::Fail;
 use txn_program::{
@@ -17,9 +17,9 @@ pub(crate) enum Step {
 }
 
 pub(crate) fn row_of(alloc: Global, letter: u8) -> Result<Row, Fail> {
-    let mut row = Row::new(alloc);
-    row.push(Cell::Text(ByteList::from_bytes(alloc, &[letter])?))?;
-    Ok(row)
+    let mut cells = CellList::new(alloc);
+    cells.push(Cell::Text(ByteList::from_bytes(alloc, &[letter])?))?;
+    Ok(Row::of(alloc, cells)?)
 }
 
 pub(crate) fn keyed(alloc: Global, key: u32, letter: u8) -> Result<Keyed, Fail> {

@@ -139,7 +139,7 @@ impl Copied for Msg {
             } => Ok(Msg::Granted {
                 who: *who,
                 key: *key,
-                row: row.copy(alloc)?,
+                row: row.share()?,
                 version: *version,
                 bound: *bound,
             }),

@@ -2,8 +2,8 @@
 
 use super::*;
 use deneva_base::{
-    Attempt, Bound, ByteList, Cause, Cell, Config, Copied, IdList, Key, Keyed, Mode, Number,
-    Protocol, Row, RowList, TxnId,
+    Attempt, Bound, ByteList, Cause, Cell, CellList, Config, Copied, IdList, Key, Keyed, Mode,
+    Number, Protocol, Row, RowList, TxnId,
 };
 use std::alloc::Global;
 use std::test::Fail;
@@ -29,9 +29,9 @@ const NUMBER: Number = Number { n: 7, id: TxnId(3) };
 const CAUSE: Cause = Cause::Held { key: KEY, by: WHO };
 
 fn row(alloc: Global) -> Result<Row, Fail> {
-    let mut row = Row::new(alloc);
-    row.push(Cell::Num(5))?;
-    Ok(row)
+    let mut cells = CellList::new(alloc);
+    cells.push(Cell::Num(5))?;
+    Ok(Row::of(alloc, cells)?)
 }
 
 fn rows(alloc: Global) -> Result<RowList, Fail> {
@@ -165,11 +165,11 @@ fn work_over(alloc: Global, keys: &[u32]) -> Result<Workload, Fail> {
     let mut rows = RowList::new(alloc);
     let mut programs = ProgramList::new(alloc);
     for key in keys {
-        let mut row = Row::new(alloc);
-        row.push(Cell::Text(ByteList::from_bytes(alloc, b"a")?))?;
+        let mut cells = CellList::new(alloc);
+        cells.push(Cell::Text(ByteList::from_bytes(alloc, b"a")?))?;
         rows.push(Keyed {
             key: ycsb_key_of(*key),
-            row,
+            row: Row::of(alloc, cells)?,
         })?;
         let mut steps = StepList::new(alloc);
         steps.push(YcsbStep {

@@ -7,7 +7,7 @@ ghost use Rattle.txn_program.specs.Transactions.{effect, written};
 
 use crate::accesses::ycsb_key_of;
 use crate::programs::{Load, Program, YcsbAct, YcsbPut, YcsbStep};
-use deneva_base::{ByteList, Cell, Key, Keyed, NoMemory, Row, RowList, TxnId};
+use deneva_base::{ByteList, Cell, CellList, Key, Keyed, NoMemory, Row, RowList, TxnId};
 use std::alloc::Global;
 
 /// Why a transaction rolled itself back.
@@ -35,27 +35,27 @@ pub struct Effect {
     pub answer: i64,
 }
 
-/// A copy of the row of a key, or a row of no cells where the key is absent.
-fn row_of(alloc: Global, rows: &[Keyed], key: Key) -> Result<Row, NoMemory>
-    ensures { IfOk result (λ row. row ≡ row_at rows.now key) }
+/// The cells of the row of a key, or none where the key is absent.
+fn cells_of(rows: &[Keyed], key: Key) -> &[Cell]
+    ensures { result.now ≡ row_at rows.now key }
 {
     for keyed in rows {
         if keyed.key == key {
-            return keyed.row.copy(alloc);
+            return keyed.row.as_slice();
         }
     }
-    Ok(Row::new(alloc))
+    &[]
 }
 
-/// The row with one of its cells replaced by a text.
-fn with_text(row: Row, field: u8, text: ByteList) -> Row
-    ensures { result ≡ slice_set row field (Text text) }
+/// A copy of the cells, one of which is replaced by a text.
+fn with_text(alloc: Global, cells: &[Cell], field: u8, text: ByteList) -> Result<CellList, NoMemory>
+    ensures { IfOk result (λ new. new ≡ slice_set cells.now field (Text text)) }
 {
-    let mut cells = row.into_vec();
-    if usize::from(field) < cells.len() {
-        cells[usize::from(field)] = Cell::Text(text);
+    let mut new = CellList::copy_of(alloc, cells)?.into_vec();
+    if usize::from(field) < new.len() {
+        new[usize::from(field)] = Cell::Text(text);
     }
-    Row::of(cells)
+    Ok(CellList::of(new))
 }
 
 /// What a step writes, where the transaction reads these rows.
@@ -63,21 +63,18 @@ fn write_of(alloc: Global, rows: &[Keyed], step: &YcsbStep) -> Result<Option<Key
     ensures { IfOk result (λ write. write ≡ written rows.now step.now) }
 {
     let key = ycsb_key_of(step.key);
-    match &step.act {
-        YcsbAct::Read => Ok(None),
+    let row = match &step.act {
+        YcsbAct::Read => return Ok(None),
         YcsbAct::Update(put) => {
-            let before = row_of(alloc, rows, key)?;
             let text = put.text.copy(alloc)?;
-            Ok(Some(Keyed {
-                key,
-                row: with_text(before, put.field, text),
-            }))
+            Row::of(
+                alloc,
+                with_text(alloc, cells_of(rows, key), put.field, text)?,
+            )?
         }
-        YcsbAct::Put(row) => {
-            let row = row.copy(alloc)?;
-            Ok(Some(Keyed { key, row }))
-        }
-    }
+        YcsbAct::Put(row) => row.share()?,
+    };
+    Ok(Some(Keyed { key, row }))
 }
 
 fn ycsb_writes(alloc: Global, rows: &[Keyed], steps: &[YcsbStep]) -> Result<RowList, NoMemory>

@@ -42,7 +42,7 @@ impl Copied for YcsbAct {
                 Ok(YcsbAct::Update(put))
             }
             YcsbAct::Put(row) => {
-                let row = row.copy(alloc)?;
+                let row = row.share()?;
                 Ok(YcsbAct::Put(row))
             }
         }

@@ -2,7 +2,7 @@
 
 use super::*;
 use deneva_base::{
-    Access, ByteList, Cell, Copied, Key, Keyed, Mode, NoMemory, Row, RowList, TxnId,
+    Access, ByteList, Cell, CellList, Copied, Key, Keyed, Mode, NoMemory, Row, RowList, TxnId,
 };
 use std::alloc::Global;
 use std::test::Fail;
@@ -14,11 +14,11 @@ fn text_of(alloc: Global, text: &[u8]) -> Result<Cell, NoMemory> {
 
 /// A row of so many cells, each of this text.
 fn row_of(alloc: Global, width: u8, text: &[u8]) -> Result<Row, NoMemory> {
-    let mut row = Row::new(alloc);
+    let mut cells = CellList::new(alloc);
     for _ in 0..width {
-        row.push(text_of(alloc, text)?)?;
+        cells.push(text_of(alloc, text)?)?;
     }
-    Ok(row)
+    Row::of(alloc, cells)
 }
 
 fn keyed_of(alloc: Global, number: u32, width: u8, text: &[u8]) -> Result<Keyed, NoMemory> {
@@ -127,13 +127,13 @@ fn an_effect_writes_what_changes(rt: HostRuntime) -> Result<(), Fail> {
     let alloc = rt.alloc();
     let load = load_of(alloc, 2, &[1, 2, 3], 2, b"a")?;
     let effect = effect_of(alloc, &load, TxnId(1), &three_steps(alloc)?, &load.rows)?;
-    let mut replaced = Row::new(alloc);
+    let mut replaced = CellList::new(alloc);
     replaced.push(text_of(alloc, b"a")?)?;
     replaced.push(text_of(alloc, b"z")?)?;
     let mut writes = RowList::new(alloc);
     writes.push(Keyed {
         key: ycsb_key_of(2),
-        row: replaced,
+        row: Row::of(alloc, replaced)?,
     })?;
     writes.push(keyed_of(alloc, 3, 2, b"x")?)?;
     assert_eq!(rt; effect.verdict, Verdict::Commit);
@@ -194,8 +194,9 @@ fn rows_of_a_file_are_valid(rt: HostRuntime) -> Result<(), Fail> {
         (0, Cell::Num(5), false),
     ] {
         let mut load = load_of(alloc, 1, &[1], 1, b"a")?;
-        let mut row = Row::new(alloc);
-        row.push(cell)?;
+        let mut cells = CellList::new(alloc);
+        cells.push(cell)?;
+        let row = Row::of(alloc, cells)?;
         let key = Key {
             table: 0,
             a: 2,

@@ -5,7 +5,7 @@ ghost use Rattle.deneva_top.specs.Grammar as grammar;
 
 use crate::workload_text::faults::{FaultKind, RecordError};
 use crate::workload_text::heads::flawed;
-use deneva_base::{ByteList, Cell, Row};
+use deneva_base::{ByteList, Cell, CellList, Row};
 use std::alloc::Global;
 
 /// A text of at most 100 bytes, which stands at this field of its record.
@@ -24,10 +24,10 @@ pub fn texts_from(alloc: Global, field_no: usize, fields: &[&[u8]]) -> Result<Ro
     requires { field_no + length fields.now < 2 ^ 64 }
     ensures { Gives result (grammar.texts_from field_no (map (λ f. f.now) fields.now)) }
 {
-    let mut row = Row::with_capacity(alloc, fields.len())?;
+    let mut cells = CellList::with_capacity(alloc, fields.len())?;
     for (place, field) in fields.iter().enumerate() {
         let text = text_at(alloc, field_no + place, field)?;
-        row.push(Cell::Text(text))?;
+        cells.push(Cell::Text(text))?;
     }
-    Ok(row)
+    Ok(Row::of(alloc, cells)?)
 }

@@ -5,7 +5,7 @@ ghost use Rattle.server_core.specs.Ends.{attempt};
 ghost use Rattle.server_core.specs.Outcome as outcome;
 ghost use Rattle.server_core.specs.declared.messages.Entry as messages;
 ghost use Rattle.report.specs.ByTransaction.{lines_for};
-ghost use Rattle.report.specs.Rereads.{reply_of};
+ghost use Rattle.report.specs.GrantedRows.{reply_of};
 ghost use Rattle.report.specs.Stories.{Tells, setting_of};
 
 use crate::outcomes::replies::grants_for;
@@ -29,12 +29,7 @@ fn committed_n(who: Attempt, entries: &[&Entry]) -> u64
 }
 
 /// Puts what the accesses that read were granted at the end.
-fn push_reads(
-    reads: &mut RowList,
-    run: Run<'_>,
-    accesses: &[Access],
-    rows: &[&Row],
-) -> Result<(), NoMemory>
+fn push_reads(reads: &mut RowList, accesses: &[Access], rows: &[&Row]) -> Result<(), NoMemory>
     ensures { OnOk result (reads.new ≡ reads.old ++ coordinator.reads_of accesses.now (map reply_of (map (λ r. r.now) rows.now))) }
 {
     let [access, more @ ..] = accesses else {
@@ -46,10 +41,10 @@ fn push_reads(
     if access.mode.is_reading() {
         reads.push(Keyed {
             key: access.key,
-            row: row.copy(run.alloc)?,
+            row: row.share()?,
         })?;
     }
-    push_reads(reads, run, more, others)
+    push_reads(reads, more, others)
 }
 
 impl Story<'_> {
@@ -84,7 +79,7 @@ impl Story<'_> {
         let who = self.attempt(turn);
         let rows = grants_for(run.alloc, who, &self.messages)?;
         let mut reads = RowList::new(run.alloc);
-        push_reads(&mut reads, run, self.accesses.as_slice(), &rows)?;
+        push_reads(&mut reads, self.accesses.as_slice(), &rows)?;
         let n = committed_n(who, &self.entries);
         let line = self.decided_as(run, n, reads)?;
         Ok(line)

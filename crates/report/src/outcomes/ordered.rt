@@ -65,13 +65,13 @@ fn rows_from<'h>(id: TxnId, part: u8, messages: &[&'h Msg]) -> &'h [Keyed]
     }
 }
 
-/// A copy of the row of a key, and a row of no cells where the key is absent.
+/// The row of a key, and a row of no cells where the key is absent.
 fn row_at(alloc: Global, rows: &[Keyed], key: Key) -> Result<Row, NoMemory>
     ensures { IfOk result (λ row. row ≡ base_rows.row_at rows.now key) }
 {
     match rows {
-        [] => Ok(Row::new(alloc)),
-        [keyed, ..] if keyed.key == key => keyed.row.copy(alloc),
+        [] => Row::empty(alloc),
+        [keyed, ..] if keyed.key == key => keyed.row.share(),
         [_, rest @ ..] => row_at(alloc, rest, key),
     }
 }

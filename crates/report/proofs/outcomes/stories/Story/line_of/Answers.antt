@@ -2,7 +2,7 @@ use Rattle.std.proofs.Common.{map, reverse, ◌++◌, ap, ap₂, ◌∙◌}
 use Rattle.server_core.specs.Coordinator.{reads_of}
 use Rattle.server_core.specs.Outcome.{committed_n}
 use Rattle.server_core.specs.Replies.{grants_for}
-use Rattle.report.specs.Rereads.{reply_of}
+use Rattle.report.specs.GrantedRows.{reply_of}
 use Rattle.report.proofs.Telling.{line_told}
 use Rattle.report.proofs.outcomes.stories.Story.line_of.Goals as goal
 

@@ -1,0 +1,14 @@
+pub mod Places
+pub mod Picks
+pub mod Trims
+pub mod Idle
+pub mod Keeping
+pub mod Histories
+pub mod Counting
+pub mod Asking
+pub mod Promising
+pub mod Ending
+pub mod Waking
+pub mod Letting
+pub mod Calls
+pub mod Outcomes

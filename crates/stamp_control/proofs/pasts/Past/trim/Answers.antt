@@ -1,0 +1,15 @@
+use Rattle.std.proofs.Common.{rules, ◌<◌, length, refl, sym, ap, ◌∙◌, arith}
+use Rattle.row_store.specs.declared.versions.Version.{Version}
+use Rattle.stamp_control.specs.Picks.{is_needed}
+use Rattle.stamp_control.specs.Pasts.{past_of}
+use Rattle.stamp_control.proofs.Trims.{trims_more, trims_one}
+use Rattle.stamp_control.proofs.pasts.Past.trim.Goals as goal
+
+pub loop-place-preserved : goal.loop-place-preserved
+loop-place-preserved c =
+    let less : c.loop-place.place < length c.loop-place.self.kept.items = search rules in
+    let r = c.remove.ensures in
+    trims_more c.args.requests.now (past_of c.args.self.now) (past_of c.loop-place.self) (past_of (record { read = c.loop-place.self.read; kept = c.remove.new.self })) c.loop-place.invariant
+    (trims_one c.args.requests.now (past_of c.loop-place.self) (past_of (record { read = c.loop-place.self.read; kept = c.remove.new.self })) c.loop-place.place c.index.result.now less
+    (ap (λ (v : Version). is_needed c.args.requests.now c.loop-place.self.kept.items v.number) (sym c.index.ensures) ∙ sym c.is_needed.ensures ∙ c.if-is_needed.false)
+    refl refl (omega (arith, r.capacity, r.len)) r.by_index.2)

@@ -1,0 +1,65 @@
+-- What the accesses that track a history tell of a call.
+use Rattle.std.proofs.Common.{◌≡◌, ℕ, ◌≤◌, ◌<◌, ◌^◌, List, [], ◌∷◌, ◌++◌, filter, Bool, true, false, not, cond, length, sym, ap, ◌∙◌, subst, arith}
+use Rattle.deneva_base.specs.declared.keys.Key.{Key}
+use Rattle.deneva_base.specs.declared.numbers.Attempt.{Attempt}
+use Rattle.deneva_base.specs.declared.rows.Keyed.{Keyed}
+use Rattle.deneva_base.specs.declared.causes.Bound.{Bound}
+use Rattle.deneva_base.specs.declared.answers.Answer.{Answer}
+use Rattle.deneva_base.specs.declared.answers.Answer.TheVariants.{Granted, Waits, Refused}
+use Rattle.deneva_base.specs.Lists.{IsIn}
+use Rattle.deneva_base.specs.Rows.{Rows}
+use Rattle.deneva_base.specs.Conditions.{MayAsk, MayPrepare}
+use Rattle.deneva_base.specs.History.{Ask, Prepare, Commit, Abort, History, Asked, asks, waits, left_waiting, is_woken, stamp_of, IsUnended}
+use Rattle.deneva_base.proofs.Known.{Known}
+use Rattle.deneva_base.proofs.Traced.{Traced}
+use Rattle.deneva_base.proofs.Marks.{stamp_is}
+use Rattle.stamp_lines.specs.declared.accesses.Accesses.{Accesses}
+use Rattle.stamp_lines.specs.Tables.{Holding}
+use Rattle.stamp_lines.specs.Changes.{IsFresh}
+use Rattle.stamp_lines.specs.Standing.{Seen, seen_of, Rising, KeysRise, Tracks}
+
+-- no accesses
+pub fresh_tracks : (a : Accesses) → IsFresh a → Tracks (seen_of a) []
+fresh_tracks a f = record {
+  owned = λ g i u. absurd i;
+  queued = λ x i. absurd i;
+  real = λ k x i. absurd (subst (λ l. IsIn x l) (f.lines k) i);
+  rising = λ k. subst (λ l. Rising l) (sym (f.lines k)) tt;
+  noted = λ g i u. absurd i;
+  noted_waiter = λ x i. absurd i;
+  keys_rise = λ w. subst (λ (p : Holding). KeysRise p.keys) (sym (f.parts w)) tt;
+  rows = λ w u. (ap (λ (p : Holding). p.writes) (f.parts w), ap (λ (p : Holding). p.copies) (f.parts w), ap (λ (p : Holding). p.appends) (f.parts w));
+  waiting = f.waiting;
+}
+
+pub length_filter : (p : Asked → Bool) (xs : List Asked) → length (filter p xs) ≤ length xs
+length_filter p [] = omega arith
+length_filter p (x ∷ xs) = go (p x) (length_filter p xs)
+  where
+    go : (b : Bool) → length (filter p xs) ≤ length xs → length (cond b (x ∷ filter p xs) (filter p xs)) ≤ length (x ∷ xs)
+    go true e = omega (arith, e)
+    go false e = omega (arith, e)
+
+-- there is room to count one more
+waits_short : (k : History) → length (waits k) ≤ length k
+waits_short [] = omega arith
+waits_short (Ask who stamp key mode answer ∷ k) = go answer (waits_short k)
+  where
+    go : (a : Answer) → length (waits k) ≤ length k → length (left_waiting (record { who = who; stamp = stamp; key = key; mode = mode }) a ++ waits k) ≤ length (Ask who stamp key mode answer ∷ k)
+    go (Granted row version bound) e = omega (arith, e)
+    go Waits e = omega (arith, e)
+    go (Refused cause) e = omega (arith, e)
+waits_short (Prepare who bound ws as' vote ∷ k) = let e = waits_short k in omega (arith, e)
+waits_short (Commit who number woken ∷ k) = let e = waits_short k in let f = length_filter (λ a. not (is_woken woken a)) (waits k) in omega (arith, e, f)
+waits_short (Abort who woken ∷ k) = let e = waits_short k in let f = length_filter (λ a. not (is_woken woken a)) (waits k) in omega (arith, e, f)
+
+pub few_wait : (loaded : Rows) (h : History) (s : Seen) → Tracks s h → (who : Attempt) (stamp : ℕ) (key : Key) → MayAsk loaded h who stamp key → s.waiting < 2 ^ 63
+few_wait loaded h s t who stamp key may = let e = t.waiting in let n = waits_short h in let m = may.short in omega (arith, e, n, m)
+
+-- the stamp of an attempt that prepares
+pub vote_stamp : (loaded : Rows) (h : History) (s : Seen) → Known loaded h → Traced h → Tracks s h → (who : Attempt) (bound : Bound) (writes appends : List Keyed) → MayPrepare h who bound writes appends → (s.holding who).stamp ≡ stamp_of (asks h) who
+vote_stamp loaded h s known traced t who bound writes appends may =
+    let g = may.something in
+    let a = traced.asked g.0 g.1 in
+    let n = (t.noted g.0 g.1 (subst (λ w. IsUnended h w) (sym g.2) may.unended)).1 in
+    ap (λ w. (s.holding w).stamp) (sym g.2) ∙ n ∙ sym a.5 ∙ sym (stamp_is (asks h) a.0 known.stamp a.1) ∙ ap (stamp_of (asks h)) (a.2 ∙ g.2)

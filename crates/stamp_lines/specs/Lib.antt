@@ -1,0 +1,4 @@
+pub mod Requests
+pub mod Tables
+pub mod Changes
+pub mod Standing
