@@ -69,7 +69,7 @@ pub versions_in : (loaded : Rows) (h : History) (key : Key) (v : Version) → Is
 versions_in loaded h key v i = ⊎_elim (λ e. inl e) (λ j. inr (in_reverse v (written h key) j)) i
 
 -- the order of the versions does not matter
-count_order : (p : Version → Bool) (loaded : Rows) (h : History) (key : Key) → length (filter p (in_order loaded h key)) ≡ length (filter p (versions loaded h key))
+pub count_order : (p : Version → Bool) (loaded : Rows) (h : History) (key : Key) → length (filter p (in_order loaded h key)) ≡ length (filter p (versions loaded h key))
 count_order p loaded h key = go (p (start loaded key)) (count_reverse p (written h key))
   where
     go : (b : Bool) → length (filter p (reverse (written h key))) ≡ length (filter p (written h key)) → length (cond b (start loaded key ∷ filter p (reverse (written h key))) (filter p (reverse (written h key)))) ≡ length (cond b (start loaded key ∷ filter p (written h key)) (filter p (written h key)))
