@@ -1,5 +1,5 @@
 -- How many versions of a key are kept.
-use Rattle.std.proofs.Common.{◌≡◌, ◌≢◌, ◌⊎◌, ℕ, suc, ◌+◌, ◌<◌, ◌≤◌, leb, eqb, List, [], ◌∷◌, filter, length, Bool, true, false, cond, not, ltb, ◌&&◌, ◌||◌, refl, sym, ap, ◌∙◌, subst, inl, inr, ⊎_elim, arith, true≢false}
+use Rattle.std.proofs.Common.{◌≡◌, ◌≢◌, ◌⊎◌, ℕ, suc, ◌+◌, ◌≤◌, leb, eqb, List, [], ◌∷◌, filter, length, Bool, true, false, cond, not, ltb, ◌&&◌, ◌||◌, refl, sym, ap, ◌∙◌, subst, inl, inr, ⊎_elim, arith, true≢false}
 use Rattle.std.proofs.lemmas.Bool.{cases_lt, ltb-true, ltb-false, lt-ltb, leb-true, le-leb, false_from_ne_true}
 use Rattle.std.proofs.lemmas.Bool.Decides.{nat_tests}
 use Rattle.deneva_base.specs.declared.keys.Key.{Key}
@@ -17,7 +17,7 @@ use Rattle.deneva_base.proofs.Timestamps.{top_by}
 use Rattle.chain_control.specs.Kept.{in_order, awaited, is_kept, kept}
 use Rattle.chain_control.proofs.Lists.{filter_all}
 use Rattle.chain_control.proofs.Apart.{Apart, apart_same, apart_versions}
-use Rattle.chain_control.proofs.Floors.{count_order, count_reverse}
+use Rattle.chain_control.proofs.Floors.{count_order}
 use Rattle.chain_control.proofs.Bests.{or_left}
 
 -- counts
