@@ -23,12 +23,13 @@ use Rattle.deneva_base.proofs.Stamped.{waits_total}
 use Rattle.deneva_base.proofs.Stops.{held_from, in_held}
 use Rattle.chain_control.specs.declared.requests.Request.{Request}
 use Rattle.chain_control.specs.declared.lines.Lines.{Lines}
-use Rattle.chain_control.specs.Requests.{stands_between, bars, is_barred, goes_in, waiter_for}
+use Rattle.chain_control.specs.Requests.{stands_between, waiter_for}
 use Rattle.chain_control.specs.Chains.{Chain}
 use Rattle.chain_control.specs.Tables.{chain_at, new_of, goers_in, goers_over}
 use Rattle.chain_control.specs.Standing.{State, requests_in, owner_of, waiter_of, IsOwner, IsWaiter, StampsRise, Rising, Tracks}
 use Rattle.chain_control.proofs.Lists.{map_both}
 use Rattle.chain_control.proofs.Answering.{between_is}
+use Rattle.chain_control.proofs.Goers.{bars, is_barred, goes_in, goers_are}
 use Rattle.chain_control.proofs.Ending.{Closes}
 use Rattle.chain_control.proofs.Waking.{to_waiter}
 
@@ -54,9 +55,9 @@ goers_sorted key p (r ∷ rs) f = go (p r) (goers_sorted key p rs f.1)
         ((λ x i. let q = in_map_from (access_of key) x (filter p rs) i in subst (λ z. by_rising_stamp (access_of key r) z ≡ true) (sym q.2) (rising_before key r q.0 (f.0 q.0 (filter_in p q.0 rs q.1).0))), s)
     go false s = s
 
-goers_is : (key : Key) (who : Attempt) (new : Option Number) (x : Option Chain) → goers_in key who new x ≡ map (waiter_for key new) (filter (goes_in who new (requests_in x)) (requests_in x))
-goers_is key who new None = refl
-goers_is key who new (Some c) = refl
+goers_is : (key : Key) (who : Attempt) (new : Option Number) (x : Option Chain) → StampsRise (requests_in x) → goers_in key who new x ≡ map (waiter_for key new) (filter (goes_in who new (requests_in x)) (requests_in x))
+goers_is key who new None rise = refl
+goers_is key who new (Some c) rise = goers_are key who new c.requests rise
 
 not_false : (b : Bool) → not b ≡ true → b ≡ false
 not_false true e = absurd (true≢false (sym e))
@@ -230,7 +231,7 @@ module _ (keep : ℕ) (loaded : Rows) (h h1 : History) (who : Attempt) (number :
   front_is lines rows [] w e = refl
   front_is lines rows (k ∷ ks) w e =
       ap₂ (λ x y. x ++ y)
-      (ap₂ (λ ws x. goers_in k who (new_of number (row_for k ws)) x) w (e k) ∙ goers_is k who (new k) (s.chains k) ∙ as_waiters k)
+      (ap₂ (λ ws x. goers_in k who (new_of number (row_for k ws)) x) w (e k) ∙ goers_is k who (new k) (s.chains k) (t.stamps_rise k) ∙ as_waiters k)
       (front_is lines rows ks w e)
       ∙ sym (map_append (of_key k) (of_keys ks))
 

@@ -12,6 +12,7 @@ pub mod Answering
 pub mod Tabling
 pub mod Ending
 pub mod Waking
+pub mod Goers
 pub mod Fronts
 pub mod Marking
 pub mod Trimming

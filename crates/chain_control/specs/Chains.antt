@@ -14,7 +14,7 @@ use Rattle.chain_control.specs.declared.requests.Request.{Request}
 use Rattle.chain_control.specs.declared.links.Link.{Link}
 use Rattle.chain_control.specs.declared.line.Line.{Line}
 use Rattle.chain_control.specs.declared.requests.Waiter.{Waiter}
-use Rattle.chain_control.specs.Requests.{put_request, grants_to, overtaken, awaits, has_request, goes_in, waiter_for}
+use Rattle.chain_control.specs.Requests.{put_request, grants_to, overtaken, awaits, has_request, goes_past, writer_after, waiter_for}
 use Rattle.chain_control.specs.Links.{link_below, floor_of, read_by}
 
 -- the unended accesses by rising stamp, the versions in the order in which they were committed, and the floor
@@ -94,6 +94,11 @@ stays c l = leb c.floor l.number.n || list_any (awaits l.number) c.requests
 abbrev pub trimmed : Chain → Chain
 trimmed c = record { requests = c.requests; links = filter (stays c) c.links; floor = c.floor }
 
--- the requests that wait and are to be granted when an attempt ends, which wrote the key where there is a number
+-- the requests that wait and are to be granted when an attempt ends, which wrote the key where there is a number: by rising
+-- stamp, those that no writer before them stops
+abbrev pub goers_after : Key → Attempt → Option Number → ℕ → List Request → List Waiter
+goers_after key ended new writer [] = []
+goers_after key ended new writer (r ∷ rs) = cond (goes_past writer new r) (waiter_for key new r ∷ goers_after key ended new (writer_after ended writer r) rs) (goers_after key ended new (writer_after ended writer r) rs)
+
 abbrev pub goers : Key → Attempt → Option Number → Chain → List Waiter
-goers key ended new c = map (waiter_for key new) (filter (goes_in ended new c.requests) c.requests)
+goers key ended new c = goers_after key ended new 0 c.requests

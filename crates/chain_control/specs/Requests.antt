@@ -1,5 +1,5 @@
 -- The unended accesses to one key as a list, by rising stamp.
-use Rattle.std.specs.Prelude.{ℕ, List, [], ◌∷◌, Bool, true, false, not, ◌&&◌, cond, ltb, Option, Some, None, option_map}
+use Rattle.std.specs.Prelude.{ℕ, List, [], ◌∷◌, Bool, true, false, not, ◌&&◌, cond, ltb, leb, Option, Some, None, option_map}
 use Rattle.std.specs.List.{list_any}
 use Rattle.deneva_base.specs.declared.numbers.Attempt.{Attempt}
 use Rattle.deneva_base.specs.declared.numbers.Number.{Number}
@@ -29,20 +29,17 @@ stops low stamp r = is_none r.waits && stands_between low stamp r
 abbrev pub is_stopped : ℕ → ℕ → List Request → Bool
 is_stopped low stamp rs = list_any (stops low stamp) rs
 
--- it is not of the attempt that ends, and stands between
-abbrev pub bars : Attempt → ℕ → ℕ → Request → Bool
-bars ended low stamp r = not (attempt_eq r.who ended) && stands_between low stamp r
+-- it waits for a version that is not below the last writer before it, once the key was written under a number, if it was
+abbrev pub past_with : ℕ → Option Number → ℕ → Option Number → Bool
+past_with writer new stamp None = false
+past_with writer new stamp (Some version) = leb writer (raised new stamp version).n
 
-abbrev pub is_barred : Attempt → ℕ → ℕ → List Request → Bool
-is_barred ended low stamp rs = list_any (bars ended low stamp) rs
+abbrev pub goes_past : ℕ → Option Number → Request → Bool
+goes_past writer new r = past_with writer new r.stamp r.waits
 
--- it waits, and nobody stands between once the attempt has ended, which wrote the key where there is a number
-abbrev pub goes_with : Attempt → Option Number → List Request → ℕ → Option Number → Bool
-goes_with ended new all stamp None = false
-goes_with ended new all stamp (Some version) = not (is_barred ended (raised new stamp version).n stamp all)
-
-abbrev pub goes_in : Attempt → Option Number → List Request → Request → Bool
-goes_in ended new all r = goes_with ended new all r.stamp r.waits
+-- the stamp of the last writer up to this one, other than the attempt that ends
+abbrev pub writer_after : Attempt → ℕ → Request → ℕ
+writer_after ended writer r = cond (writes r.mode && not (attempt_eq r.who ended)) r.stamp writer
 
 -- the number that a waiter reads then
 abbrev pub reads_with : Option Number → ℕ → Option Number → Number

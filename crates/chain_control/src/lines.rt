@@ -180,7 +180,7 @@ impl Lines {
     {
         for key in keys {
             if let Some(line) = self.lines.get(key) {
-                if !line.is_idle(*key, ended, number_of(number, rows, *key)) {
+                if !line.is_idle(ended, number_of(number, rows, *key)) {
                     return false;
                 }
             }

@@ -1,7 +1,7 @@
 //! The unended accesses to one key.
 ghost use Rattle.std.specs.Prelude.{◌≡◌, ◌≤◌, ◌++◌, ◌∷◌, length, take, drop};
 ghost use Rattle.std.specs.List.{list_any};
-ghost use Rattle.chain_control.specs.Requests.{raised, stands_between, grants_to, overtaken, awaits, has_request, stamp_among, is_stopped, is_barred, goes_in, waiter_for, put_request};
+ghost use Rattle.chain_control.specs.Requests.{raised, stands_between, grants_to, overtaken, awaits, has_request, stamp_among, is_stopped, goes_past, writer_after, waiter_for, put_request};
 
 use deneva_base::{Attempt, Key, Mode, Number, TxnId};
 
@@ -64,6 +64,29 @@ impl Request {
         }
     }
 
+    /// Whether it waits for a version that is not below the last writer before it, once the key was written under a number,
+    /// if it was.
+    pub fn goes_past(&self, writer: u64, new: Option<Number>) -> bool
+        ensures { result ≡ goes_past writer new self.now }
+    {
+        match self.waits {
+            Some(version) => writer <= raised(new, self.stamp, version).n,
+            None => false,
+        }
+    }
+
+    /// The stamp of the last writer up to this one, where `writer` is that of the last before it. The attempt that ends is
+    /// none.
+    pub fn writer_after(&self, writer: u64, ended: Attempt) -> u64
+        ensures { result ≡ writer_after ended writer self.now }
+    {
+        if self.mode.is_writing() && self.who != ended {
+            self.stamp
+        } else {
+            writer
+        }
+    }
+
     /// What is woken of it, once the key was written under a number, if it was.
     pub fn waiter(&self, key: Key, new: Option<Number>) -> Waiter
         ensures { result ≡ waiter_for key new self.now }
@@ -121,40 +144,6 @@ pub(crate) fn is_stopped(requests: &[Request], low: u64, stamp: u64) -> bool
     ensures { result ≡ is_stopped low stamp requests.now }
 {
     requests.iter().any(|request| request.waits.is_none() && request.stands_between(low, stamp))
-}
-
-/// Whether any access writes there, other than that of the attempt that ends.
-fn is_barred(requests: &[Request], ended: Attempt, low: u64, stamp: u64) -> bool
-    ensures { result ≡ is_barred ended low stamp requests.now }
-{
-    requests.iter().any(|request| request.who != ended && request.stands_between(low, stamp))
-}
-
-/// Whether a request waits that is to be granted when an attempt ends, which wrote the key where there is a number.
-pub(crate) fn goes(
-    requests: &[Request],
-    request: &Request,
-    ended: Attempt,
-    new: Option<Number>,
-) -> bool
-    ensures { result ≡ goes_in ended new requests.now request.now }
-{
-    match request.waits {
-        Some(version) => {
-            let low = raised(new, request.stamp, version);
-            !is_barred(requests, ended, low.n, request.stamp)
-        }
-        None => false,
-    }
-}
-
-/// Whether there is one.
-pub(crate) fn any_goes(requests: &[Request], ended: Attempt, new: Option<Number>) -> bool
-    ensures { result ≡ list_any (goes_in ended new requests.now) requests.now }
-{
-    requests
-        .iter()
-        .any(|request| goes(requests, request, ended, new))
 }
 
 /// Where a request stands among these by its stamp.

@@ -1,14 +1,14 @@
 //! An attempt with an access to the key ends.
-ghost use Rattle.std.specs.Prelude.{◌≡◌, ◌++◌, ◌+◌, ◌<◌, true, not, OnOk};
-ghost use Rattle.std.specs.List.{list_any};
+ghost use Rattle.std.specs.Prelude.{◌≡◌, ◌++◌, ◌+◌, ◌<◌, true, OnOk};
+ghost use Rattle.deneva_base.specs.declared.keys.Key.{Key};
 ghost use Rattle.std.specs.Vec.{vec_len, vec_capacity};
-ghost use Rattle.chain_control.specs.Requests.{goes_in, has_request};
+ghost use Rattle.chain_control.specs.Requests.{has_request};
 ghost use Rattle.chain_control.specs.Chains.{chain_of, without, committed, overtaken_by, with_link, unread, granted, trimmed, goers};
 ghost use Rattle.chain_control.specs.Tables.{no_one};
 
 use super::Line;
 use crate::links::{Link, floor, read};
-use crate::requests::{Request, Waiter, any_goes, goes, has_request, is_awaited};
+use crate::requests::{Waiter, has_request, is_awaited};
 use deneva_base::{Attempt, Key, NoMemory, Number, Row};
 
 impl Line {
@@ -23,19 +23,28 @@ impl Line {
     ) -> Result<(), NoMemory>
         ensures { OnOk result (front.new.items ≡ front.old.items ++ goers key ended new (chain_of self.now)) }
     {
+        let mut writer = 0;
         for request in &self.requests {
-            if goes(&self.requests, request, ended, new) {
+            if request.goes_past(writer, new) {
                 front.push(request.waiter(key, new))?;
             }
+            writer = request.writer_after(writer, ended);
         }
         Ok(())
     }
 
     /// Whether there is none.
-    pub fn is_idle(&self, key: Key, ended: Attempt, new: Option<Number>) -> bool
-        ensures { result ≡ no_one (goers key ended new (chain_of self.now)) }
+    pub fn is_idle(&self, ended: Attempt, new: Option<Number>) -> bool
+        ensures { (key : Key) → result ≡ no_one (goers key ended new (chain_of self.now)) }
     {
-        !any_goes(&self.requests, ended, new)
+        let mut writer = 0;
+        for request in &self.requests {
+            if request.goes_past(writer, new) {
+                return false;
+            }
+            writer = request.writer_after(writer, ended);
+        }
+        true
     }
 
     /// Takes out the attempt's request, whose room is then free.
