@@ -28,7 +28,7 @@ pub struct Ran {
 pub fn is_built(protocol: Protocol) -> bool
     ensures { result ≡ spec.is_built protocol }
 {
-    protocol != Protocol::Calvin
+    !matches!(protocol, Protocol::Calvin)
 }
 
 /// The run of these nodes that a schedule picks.
