@@ -15,6 +15,7 @@ use Rattle.deneva_base.proofs.Words.{in_left, in_right}
 use Rattle.deneva_base.proofs.Belows.{greatest_le, not_above}
 use Rattle.deneva_base.proofs.Timestamps.{top_by}
 use Rattle.chain_control.specs.Kept.{in_order}
+use Rattle.chain_control.proofs.Lists.{greatest_same}
 
 -- the greatest is 0 or that of an element
 pub greatest_at : {A : Type 0} (f : A → ℕ) (xs : List A) → (greatest_by f xs ≡ 0) ⊎ ((x : A) × IsIn x xs × (greatest_by f xs ≡ f x))
@@ -69,15 +70,12 @@ pub versions_in : (loaded : Rows) (h : History) (key : Key) (v : Version) → Is
 versions_in loaded h key v i = ⊎_elim (λ e. inl e) (λ j. inr (in_reverse v (written h key) j)) i
 
 -- the order of the versions does not matter
-count_order : (p : Version → Bool) (loaded : Rows) (h : History) (key : Key) → length (filter p (in_order loaded h key)) ≡ length (filter p (versions loaded h key))
+pub count_order : (p : Version → Bool) (loaded : Rows) (h : History) (key : Key) → length (filter p (in_order loaded h key)) ≡ length (filter p (versions loaded h key))
 count_order p loaded h key = go (p (start loaded key)) (count_reverse p (written h key))
   where
     go : (b : Bool) → length (filter p (reverse (written h key))) ≡ length (filter p (written h key)) → length (cond b (start loaded key ∷ filter p (reverse (written h key))) (filter p (reverse (written h key)))) ≡ length (cond b (start loaded key ∷ filter p (written h key)) (filter p (written h key)))
     go true e = omega (arith, e)
     go false e = e
-
-greatest_same : {A : Type 0} (f g : A → ℕ) (xs : List A) → ((x : A) → IsIn x xs → f x ≡ g x) → greatest_by f xs ≡ greatest_by g xs
-greatest_same f g xs e = let p = greatest_le f (greatest_by g xs) xs (λ x i. subst (λ n. n ≤ greatest_by g xs) (sym (e x i)) (top_by g x xs i)) in let q = greatest_le g (greatest_by f xs) xs (λ x i. subst (λ n. n ≤ greatest_by f xs) (e x i) (top_by f x xs i)) in omega (arith, p, q)
 
 pub nth_order : (keep : ℕ) (loaded : Rows) (h : History) (key : Key) → nth_greatest keep (in_order loaded h key) ≡ nth_greatest keep (versions loaded h key)
 nth_order keep loaded h key =

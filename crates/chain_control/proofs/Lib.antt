@@ -17,5 +17,6 @@ pub mod Marking
 pub mod Trimming
 pub mod Closing
 pub mod Calls
+pub mod Fews
 pub mod Asks
 pub mod Outcomes

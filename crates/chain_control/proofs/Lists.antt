@@ -1,5 +1,5 @@
 -- Maps and filters of lists.
-use Rattle.std.proofs.Common.{◌≡◌, ℕ, max, ◌<◌, ◌≤◌, List, [], ◌∷◌, map, filter, length, arith, Bool, true, false, true≢false, not, ◌&&◌, ◌||◌, cond, refl, sym, ap, ap₂, ◌∙◌, inl, inr}
+use Rattle.std.proofs.Common.{◌≡◌, ℕ, max, ◌<◌, ◌≤◌, List, [], ◌∷◌, map, filter, length, arith, Bool, true, false, true≢false, not, ◌||◌, cond, refl, sym, ap, ap₂, inl, inr}
 use Rattle.std.specs.List.{list_any}
 use Rattle.deneva_base.specs.Lists.{IsIn, greatest_by}
 
@@ -19,15 +19,6 @@ pub filter_same : {A : Type 0} (p q : A → Bool) (xs : List A) → ((x : A) →
 filter_same p q [] e = refl
 filter_same p q (x ∷ xs) e = ap₂ (λ b ys. cond b (x ∷ ys) ys) (e x (inl refl)) (filter_same p q xs (λ y i. e y (inr i)))
 
--- a filter of a filter
-pub filter_both : {A : Type 0} (p q r : A → Bool) (xs : List A) → ((x : A) → r x ≡ (p x && q x)) → filter q (filter p xs) ≡ filter r xs
-filter_both p q r [] e = refl
-filter_both p q r (x ∷ xs) e = go (p x) refl (filter_both p q r xs e)
-  where
-    go : (b : Bool) → p x ≡ b → filter q (filter p xs) ≡ filter r xs → filter q (cond b (x ∷ filter p xs) (filter p xs)) ≡ cond (r x) (x ∷ filter r xs) (filter r xs)
-    go true t rest = ap₂ (λ b ys. cond b (x ∷ ys) ys) (sym (e x ∙ ap (λ b. b && q x) t)) rest
-    go false t rest = rest ∙ sym (ap (λ b. cond b (x ∷ filter r xs) (filter r xs)) (e x ∙ ap (λ b. b && q x) t))
-
 -- a filter of mapped elements
 pub filter_map : {A B : Type 0} (f : A → B) (p : B → Bool) (q : A → Bool) (xs : List A) → ((x : A) → p (f x) ≡ q x) → filter p (map f xs) ≡ map f (filter q xs)
 filter_map f p q [] e = refl
@@ -40,10 +31,6 @@ filter_map f p q (x ∷ xs) e = go (q x) (e x) (filter_map f p q xs e)
 pub filter_all : {A : Type 0} (p : A → Bool) (xs : List A) → ((x : A) → IsIn x xs → p x ≡ true) → filter p xs ≡ xs
 filter_all p [] e = refl
 filter_all p (x ∷ xs) e = rw (e x (inl refl)) (ap (λ ys. x ∷ ys) (filter_all p xs (λ y i. e y (inr i))))
-
-pub map_none : {A : Type 0} (f : A → A) (xs : List A) → ((x : A) → IsIn x xs → f x ≡ x) → map f xs ≡ xs
-map_none f [] e = refl
-map_none f (x ∷ xs) e = ap₂ (λ y ys. y ∷ ys) (e x (inl refl)) (map_none f xs (λ y i. e y (inr i)))
 
 -- one that is taken out is one less
 pub fewer : {A : Type 0} (p : A → Bool) (xs : List A) → length (filter (λ x. not (p x)) xs) ≤ length xs

@@ -19,6 +19,7 @@ use Rattle.chain_control.specs.declared.links.Link.{Link}
 use Rattle.chain_control.specs.Links.{read_by}
 use Rattle.chain_control.specs.Tables.{same_key}
 use Rattle.chain_control.specs.Standing.{link_of}
+use Rattle.chain_control.proofs.Lists.{greatest_same}
 use Rattle.chain_control.proofs.Places.{same_tells}
 use Rattle.chain_control.proofs.Apart.{number_eq_sym}
 use Rattle.chain_control.proofs.Tabling.{reads_by}
@@ -37,10 +38,6 @@ greatest_append f (x ∷ xs) ys = let e = greatest_append f xs ys in omega (arit
 pub greatest_map : {A B : Type 0} (f : B → ℕ) (g : A → B) (xs : List A) → greatest_by f (map g xs) ≡ greatest_by (λ x. f (g x)) xs
 greatest_map f g [] = refl
 greatest_map f g (x ∷ xs) = ap (max (f (g x))) (greatest_map f g xs)
-
-greatest_each : {A : Type 0} (f g : A → ℕ) (xs : List A) → ((x : A) → IsIn x xs → f x ≡ g x) → greatest_by f xs ≡ greatest_by g xs
-greatest_each f g [] e = refl
-greatest_each f g (x ∷ xs) e = ap₂ (λ m n. max m n) (e x (inl refl)) (greatest_each f g xs (λ y i. e y (inr i)))
 
 -- the stamp of a waiter that reads this version
 abbrev pub hit : Key → Number → Waiter → ℕ
@@ -93,5 +90,5 @@ module _ (loaded : Rows) (h h1 h2 : History) (known : Known loaded h) (ws : List
       ∙ ap (λ n. max n (top_reader h k v.number)) (
       greatest_map (reader k v.number) (grant_of_wake h) (map (wake_of loaded h1) ws)
       ∙ greatest_map (λ x. reader k v.number (grant_of_wake h x)) (wake_of loaded h1) ws
-      ∙ greatest_each (λ a. reader k v.number (grant_of_wake h (wake_of loaded h1 a))) (λ a. hit k v.number (to_waiter loaded h1 a)) ws (each k v.number)
+      ∙ greatest_same (λ a. reader k v.number (grant_of_wake h (wake_of loaded h1 a))) (λ a. hit k v.number (to_waiter loaded h1 a)) ws (each k v.number)
       ∙ sym (greatest_map (hit k v.number) (to_waiter loaded h1) ws))))

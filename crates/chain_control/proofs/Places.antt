@@ -35,9 +35,6 @@ pub nil_from_none : {A : Type 0} (xs : List A) → no_one xs ≡ true → xs ≡
 nil_from_none [] e = refl
 nil_from_none (x ∷ xs) e = absurd (true≢false (sym e))
 
-pub none_from_nil : {A : Type 0} (xs : List A) → xs ≡ [] → no_one xs ≡ true
-none_from_nil xs e = ap no_one e
-
 pub nil_from_map : {A B : Type 0} (f : A → B) (xs : List A) → map f xs ≡ [] → xs ≡ []
 nil_from_map f [] e = refl
 nil_from_map f (x ∷ xs) e = absurd (cc (e))

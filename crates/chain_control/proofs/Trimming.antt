@@ -44,11 +44,6 @@ or_cases : (a b : Bool) → (a || b) ≡ true → (a ≡ true) ⊎ (b ≡ true)
 or_cases true b e = inl refl
 or_cases false b e = inr e
 
-reverse_news : (number : Option Number) (row : Option Row) → reverse (news number row) ≡ news number row
-reverse_news None row = refl
-reverse_news (Some n) None = refl
-reverse_news (Some n) (Some row) = refl
-
 reverse_both : (number : Option Number) (row : Option Row) (vs : List Version) → reverse (news number row ++ vs) ≡ reverse vs ++ news number row
 reverse_both None row vs = sym (append-nil (reverse vs))
 reverse_both (Some n) None vs = sym (append-nil (reverse vs))

@@ -1,7 +1,8 @@
 //! MVCC as a control.
-ghost use Rattle.std.specs.Prelude.{true, false, refl, ◌≡◌, Some, length};
-ghost use Rattle.deneva_base.specs.Mvcc.{mvcc};
-ghost use Rattle.deneva_base.specs.History.{History};
+ghost use Rattle.std.specs.Prelude.{true, false, refl, ◌≡◌, ◌≤◌, ◌+◌, Some, length, filter};
+ghost use Rattle.deneva_base.specs.Mvcc.{mvcc, versions};
+ghost use Rattle.deneva_base.specs.History.{History, waits};
+ghost use Rattle.deneva_base.specs.Keys.{key_eq};
 ghost use Rattle.deneva_base.specs.Rows.{Row, Rows};
 ghost use Rattle.deneva_base.specs.declared.config.Protocol.TheVariants.{Mvcc};
 ghost use Rattle.deneva_base.proofs.Mvccs.{stamping};
@@ -28,7 +29,9 @@ impl<const KEEP: usize> Chains<KEEP> {
     /// How many versions are kept of a key that is loaded here. It takes no memory.
     pub fn kept(&self, key: Key) -> usize
         requires loaded { (loaded : Rows) × (h : History) × (row : Row) × Stands KEEP self.now.table loaded h × (loaded key ≡ Some row) }
-        ensures { (loaded : Rows) (h : History) (row : Row) → Stands KEEP self.now.table loaded h → loaded key ≡ Some row → result ≡ length (kept KEEP loaded h key) }
+        ensures kept { (loaded : Rows) (h : History) (row : Row) → Stands KEEP self.now.table loaded h → loaded key ≡ Some row → result ≡ length (kept KEEP loaded h key) }
+        ensures few { (loaded : Rows) (h : History) (row : Row) → Stands KEEP self.now.table loaded h → loaded key ≡ Some row → 1 ≤ KEEP → result ≤ KEEP + length (filter (λ a. key_eq a.key key) (waits h)) }
+        ensures all { (loaded : Rows) (h : History) (row : Row) → Stands KEEP self.now.table loaded h → loaded key ≡ Some row → KEEP ≡ 0 → result ≡ length (versions loaded h key) }
     {
         self.table.lines.kept(key)
     }

@@ -20,6 +20,7 @@ use deneva_base::{
     Answer, Attempt, Key, Keyed, Mode, NoMemory, Number, Row, RowList, TxnId, Vote, Wake, Woken,
 };
 use row_store::Store;
+use std::alloc::Global;
 
 /// The rows, what is kept of each key, and the attempts, with the number of appended rows for which there is room in the
 /// store, and the number of requests that wait.
@@ -33,15 +34,14 @@ pub(crate) struct Table {
 }
 
 /// The row of a version with its number, or no cells.
-fn copy_link(store: &Store, link: Option<&Link>) -> Result<(Row, Number), NoMemory>
+fn share_link(alloc: Global, link: Option<&Link>) -> Result<(Row, Number), NoMemory>
     ensures { IfOk result (λ r. r ≡ read_of (option_map (λ l. l.now) link.entry)) }
 {
-    let alloc = store.allocator();
     match link {
-        Some(link) => Ok((link.row.copy(alloc)?, link.number)),
+        Some(link) => Ok((link.row.share()?, link.number)),
         None => {
             let number = Number { n: 0, id: TxnId(0) };
-            Ok((Row::new(alloc), number))
+            Ok((Row::empty(alloc)?, number))
         }
     }
 }
@@ -75,10 +75,11 @@ impl Table {
     fn read(&self, key: Key, stamp: u64, mode: Mode) -> Result<(Row, Number), NoMemory>
         ensures { IfOk result (λ r. r ≡ read_in mode (below_in stamp (chain_at self.now.lines key))) }
     {
+        let alloc = self.store.allocator();
         if mode.is_reading() {
-            copy_link(&self.store, self.lines.below(key, stamp))
+            share_link(alloc, self.lines.below(key, stamp))
         } else {
-            copy_link(&self.store, None)
+            share_link(alloc, None)
         }
     }
 
@@ -211,9 +212,9 @@ impl Table {
     {
         match (number, find_row(rows, key)) {
             (Some(number), Some(row)) if self.comes_after(key, stamp, number) => {
-                Ok((row.copy(self.store.allocator())?, number))
+                Ok((row.share()?, number))
             }
-            _ => copy_link(&self.store, self.lines.below(key, stamp)),
+            _ => share_link(self.store.allocator(), self.lines.below(key, stamp)),
         }
     }
 

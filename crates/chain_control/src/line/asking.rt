@@ -16,7 +16,7 @@ impl Line {
     pub fn open(alloc: Global, version: &Version) -> Result<Line, NoMemory>
         ensures { IfOk result (λ l. chain_of l ≡ opened version.now) }
     {
-        let row = version.row.copy(alloc)?;
+        let row = version.row.share()?;
         let mut links = Vec::new(alloc);
         links.push(Link {
             number: version.number,
