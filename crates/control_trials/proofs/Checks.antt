@@ -1,5 +1,5 @@
 -- Tests that tell that each call of a list meets its conditions.
-use Rattle.std.proofs.Common.{◌≡◌, ◌≢◌, ℕ, ◌^◌, List, [], ◌∷◌, length, Bool, true, false, not, ltb, leb, eqb, ◌&&◌, refl, sym, ap, ◌∙◌, subst, ⊎_elim, true≢false, arith, Option, Some, None}
+use Rattle.std.proofs.Common.{◌≡◌, ◌≢◌, ℕ, ℤ, ◌^◌, List, [], ◌∷◌, length, Bool, true, false, not, ltb, leb, eqb, ◌&&◌, refl, sym, ap, ◌∙◌, subst, ⊎_elim, true≢false, arith, Option, Some, None}
 use Rattle.std.proofs.lemmas.Bool.{ltb-true, leb-true, eqb-true, eq-eqb, not-true, ne_eqb, false_from_ne_true}
 use Rattle.std.specs.Prelude.{is_some}
 use Rattle.std.specs.List.{list_any}
@@ -16,7 +16,7 @@ use Rattle.deneva_base.specs.Rules.{Rule}
 use Rattle.deneva_base.proofs.Words.{any_at, any_found, and_true, and_parts, attempt_decides, key_decides, writing_decides}
 use Rattle.control_trials.specs.declared.steps.Step.{Step}
 use Rattle.control_trials.specs.declared.steps.Step.TheVariants.{Ask, Prepare, Write, Commit, Abort}
-use Rattle.control_trials.specs.Trials.{attempt_of, trial_key, empty_row, no_bound, number_of, MayStep, Allowed, answered, is_trial_key}
+use Rattle.control_trials.specs.Trials.{attempt_of, trial_key, trial_row, bound_of, number_of, MayStep, Allowed, answered, is_trial_key}
 
 abbrev all_true : List Bool → Bool
 all_true [] = true
@@ -53,18 +53,19 @@ ask_tests h who stamp key =
     ∷ ltb stamp (2 ^ 48)
     ∷ []
 
-abbrev prepare_tests : History → Attempt → List Bool
-prepare_tests h who =
+abbrev prepare_tests : History → Attempt → ℕ → List Bool
+prepare_tests h who bound =
     ltb (length h) (2 ^ 32)
     ∷ list_any (λ g. attempt_eq g.who who) (grants h)
     ∷ not (list_any (λ a. attempt_eq a.who who) (waits h))
     ∷ not (list_any (attempt_eq who) (refused h))
     ∷ not (list_any (attempt_eq who) (closed h))
     ∷ not (list_any (attempt_eq who) (ended h))
+    ∷ ltb bound (2 ^ 48)
     ∷ []
 
-abbrev write_tests : History → Attempt → Key → List Bool
-write_tests h who key = list_any (λ g. attempt_eq g.who who && (key_eq g.key key && writes g.mode)) (grants h) ∷ prepare_tests h who
+abbrev write_tests : History → Attempt → ℕ → Key → List Bool
+write_tests h who bound key = list_any (λ g. attempt_eq g.who who && (key_eq g.key key && writes g.mode)) (grants h) ∷ prepare_tests h who bound
 
 abbrev commit_tests : History → Attempt → ℕ → List Bool
 commit_tests h who n =
@@ -85,8 +86,8 @@ abort_tests h who =
 -- the tests of a list of calls
 abbrev pub allows : History → Step → Bool
 allows h (Ask txn turn stamp a mode) = all_true (ask_tests h (attempt_of txn turn) stamp (trial_key a))
-allows h (Prepare txn turn) = all_true (prepare_tests h (attempt_of txn turn))
-allows h (Write txn turn a) = all_true (write_tests h (attempt_of txn turn) (trial_key a))
+allows h (Prepare txn turn bound) = all_true (prepare_tests h (attempt_of txn turn) bound)
+allows h (Write txn turn bound a cell) = all_true (write_tests h (attempt_of txn turn) bound (trial_key a))
 allows h (Commit txn turn n) = all_true (commit_tests h (attempt_of txn turn) n)
 allows h (Abort txn turn) = all_true (abort_tests h (attempt_of txn turn))
 
@@ -140,24 +141,24 @@ may_ask loaded rows h who stamp key t = record {
     stamped a i e true f = eqb-true a.stamp stamp f
     stamped a i e false f = absurd (none (λ (a : Asked). attempt_eq a.who who && not (eqb a.stamp stamp)) (asks h) t.1.1.1.1.1.1.1.1.0 a i (and_true (attempt_eq a.who who) (not (eqb a.stamp stamp)) ((attempt_decides a.who who).1 e) (ap not f)))
 
-may_prepare : (h : History) (who : Attempt) → Truths (prepare_tests h who) → MayPrepare h who no_bound [] []
-may_prepare h who t = record {
+may_prepare : (h : History) (who : Attempt) (bound : ℕ) → Truths (prepare_tests h who bound) → MayPrepare h who (bound_of bound) [] []
+may_prepare h who bound t = record {
   short = ltb-true (length h) (2 ^ 32) t.0;
   something = let g = any_found (λ (g : Grant). attempt_eq g.who who) (grants h) t.1.0 in (g.0, g.1, (attempt_decides g.0.who who).0 g.2);
   nowhere = nowhere h who t.1.1.0;
   unrefused = not_in who (refused h) t.1.1.1.0;
   opened = not_in who (closed h) t.1.1.1.1.0;
   unended = not_in who (ended h) t.1.1.1.1.1.0;
-  small = omega arith;
+  small = ltb-true bound (2 ^ 48) t.1.1.1.1.1.1.0;
   held = λ w i. absurd i;
   distinct = tt;
   distinct_appends = tt;
   tables = λ w i. absurd i;
 }
 
-may_write : (h : History) (who : Attempt) (a : ℕ) → Truths (write_tests h who (trial_key a)) → MayPrepare h who no_bound (empty_row a ∷ []) []
-may_write h who a t =
-    let p = may_prepare h who t.1 in
+may_write : (h : History) (who : Attempt) (bound a : ℕ) (cell : ℤ) → Truths (write_tests h who bound (trial_key a)) → MayPrepare h who (bound_of bound) (trial_row a cell ∷ []) []
+may_write h who bound a cell t =
+    let p = may_prepare h who bound t.1 in
     record {
       short = p.short;
       something = p.something;
@@ -170,7 +171,7 @@ may_write h who a t =
           let g = any_found (λ (g : Grant). attempt_eq g.who who && (key_eq g.key (trial_key a) && writes g.mode)) (grants h) t.0 in
           let q = and_parts (attempt_eq g.0.who who) (key_eq g.0.key (trial_key a) && writes g.0.mode) g.2 in
           let r = and_parts (key_eq g.0.key (trial_key a)) (writes g.0.mode) q.1 in
-          ⊎_elim (λ (s : w ≡ empty_row a). (g.0, g.1, (attempt_decides g.0.who who).0 q.0, (key_decides g.0.key (trial_key a)).0 r.0 ∙ sym (ap (λ (x : Keyed). x.key) s), (writing_decides g.0.mode).0 r.1)) (λ b. absurd b) i;
+          ⊎_elim (λ (s : w ≡ trial_row a cell). (g.0, g.1, (attempt_decides g.0.who who).0 q.0, (key_decides g.0.key (trial_key a)).0 r.0 ∙ sym (ap (λ (x : Keyed). x.key) s), (writing_decides g.0.mode).0 r.1)) (λ b. absurd b) i;
       distinct = ((λ x i. absurd i), tt);
       distinct_appends = tt;
       tables = λ w i. absurd i;
@@ -205,7 +206,7 @@ allowed loaded rows rule h (s ∷ ss) e = let p = and_parts (allows h s) (allows
   where
     one : (s : Step) → allows h s ≡ true → MayStep loaded h s
     one (Ask txn turn stamp a mode) t = may_ask loaded rows h (attempt_of txn turn) stamp (trial_key a) (truths (ask_tests h (attempt_of txn turn) stamp (trial_key a)) t)
-    one (Prepare txn turn) t = may_prepare h (attempt_of txn turn) (truths (prepare_tests h (attempt_of txn turn)) t)
-    one (Write txn turn a) t = may_write h (attempt_of txn turn) a (truths (write_tests h (attempt_of txn turn) (trial_key a)) t)
+    one (Prepare txn turn bound) t = may_prepare h (attempt_of txn turn) bound (truths (prepare_tests h (attempt_of txn turn) bound) t)
+    one (Write txn turn bound a cell) t = may_write h (attempt_of txn turn) bound a cell (truths (write_tests h (attempt_of txn turn) bound (trial_key a)) t)
     one (Commit txn turn n) t = may_commit h (attempt_of txn turn) n (truths (commit_tests h (attempt_of txn turn) n) t)
     one (Abort txn turn) t = may_abort h (attempt_of txn turn) (truths (abort_tests h (attempt_of txn turn)) t)

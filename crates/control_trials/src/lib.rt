@@ -1,5 +1,5 @@
-//! Trials of controls: lists of calls, each of which meets its conditions, on which a control and a plain body that scans
-//! a list of all accesses have to agree.
+//! Trials of controls: lists of calls, each of which meets its conditions. Lock controls have to agree on them with a plain
+//! body that scans a list of all accesses; for others the answers are written out.
 #![tactic(auto)]
 
 mod plain;
@@ -9,5 +9,5 @@ mod stores;
 mod tests;
 
 use plain::Plain;
-use steps::{Step, agree};
+use steps::{Said, Step, attempt, key, said_to};
 use stores::two_rows;

@@ -1,5 +1,6 @@
 //! The plain body: a list of all accesses that were ever asked for, which each call scans.
 
+use crate::steps::{Said, Step, attempt, key};
 use deneva_base::{
     Answer, Attempt, Cause, Cell, CellList, Key, Keyed, Mode, NoMemory, Number, Row, RowList,
     TxnId, Vote, Wake, Woken,
@@ -14,7 +15,7 @@ struct Asked {
     key: Key,
     mode: Mode,
     waits: bool,
-    is_written: bool,
+    written: Option<i64>,
     ended: Option<u64>,
 }
 
@@ -45,6 +46,47 @@ impl Plain {
         }
     }
 
+    /// Whether this is what comes of these calls, one after another.
+    pub(crate) fn agrees(
+        &mut self,
+        alloc: Global,
+        steps: &[Step],
+        said: &[Said],
+    ) -> Result<bool, NoMemory> {
+        for (step, said) in steps.iter().zip(said) {
+            if !self.agrees_once(alloc, *step, said)? {
+                return Ok(false);
+            }
+        }
+        Ok(steps.len() == said.len())
+    }
+
+    fn agrees_once(&mut self, alloc: Global, step: Step, said: &Said) -> Result<bool, NoMemory> {
+        match (step, said) {
+            (Step::Ask(txn, turn, stamp, a, mode), Said::Answer(answer)) => {
+                let plain = self.ask(alloc, attempt(txn, turn), stamp, key(a), mode)?;
+                Ok(plain == *answer)
+            }
+            (Step::Prepare(txn, turn, _), Said::Vote(vote)) => {
+                Ok(self.vote(attempt(txn, turn)) == *vote)
+            }
+            (Step::Write(txn, turn, _, a, cell), Said::Vote(vote)) => {
+                let who = attempt(txn, turn);
+                self.write(who, key(a), cell);
+                Ok(self.vote(who) == *vote)
+            }
+            (Step::Commit(txn, turn, n), Said::Ended(woken, waiting)) => {
+                let same = self.end(alloc, attempt(txn, turn), Some(n), woken)?;
+                Ok(same && self.waiting() == *waiting)
+            }
+            (Step::Abort(txn, turn), Said::Ended(woken, waiting)) => {
+                let same = self.end(alloc, attempt(txn, turn), None, woken)?;
+                Ok(same && self.waiting() == *waiting)
+            }
+            _ => Ok(false),
+        }
+    }
+
     /// The least owner that conflicts, and under WAIT_DIE is older.
     fn least_bar(&self, asked: &Asked) -> Option<Asked> {
         let mut least: Option<Asked> = None;
@@ -71,7 +113,7 @@ impl Plain {
         true
     }
 
-    pub(crate) fn ask(
+    fn ask(
         &mut self,
         alloc: Global,
         who: Attempt,
@@ -85,7 +127,7 @@ impl Plain {
             key,
             mode,
             waits: false,
-            is_written: false,
+            written: None,
             ended: None,
         };
         if let Some(bar) = self.least_bar(&asked) {
@@ -110,27 +152,27 @@ impl Plain {
         })
     }
 
-    /// What an access reads: the row of the greatest committed write, which has no cells, or the loaded one.
+    /// What an access reads: the row of the greatest committed write, or the loaded one.
     fn read(&self, alloc: Global, key: Key, mode: Mode) -> Result<(Row, Number), NoMemory> {
         let mut version = Number { n: 0, id: TxnId(0) };
         if !mode.is_reading() {
             return Ok((Row::empty(alloc)?, version));
         }
+        let mut cell = 100 + key.a as i64;
         for access in &self.accesses {
-            if let Some(n) = access.ended {
-                let number = Number {
-                    n,
-                    id: access.who.txn,
-                };
-                if n > 0 && access.is_written && access.key == key && number > version {
+            let number = Number {
+                n: access.ended.unwrap_or(0),
+                id: access.who.txn,
+            };
+            if let Some(written) = access.written {
+                if number.n > 0 && access.key == key && number > version {
                     version = number;
+                    cell = written;
                 }
             }
         }
         let mut cells = CellList::new(alloc);
-        if version.n == 0 {
-            cells.push(Cell::Num(100 + key.a as i64))?;
-        }
+        cells.push(Cell::Num(cell))?;
         Ok((Row::of(alloc, cells)?, version))
     }
 
@@ -150,18 +192,18 @@ impl Plain {
         Ok(rows)
     }
 
-    /// Notes that the attempt is to commit a row without cells for the key.
-    pub(crate) fn write(&mut self, who: Attempt, key: Key) {
+    /// Notes that the attempt is to commit a row of this cell for the key.
+    fn write(&mut self, who: Attempt, key: Key, cell: i64) {
         for place in 0..self.accesses.len() {
             let access = self.accesses[place];
             if access.who == who && access.key == key {
-                self.accesses[place].is_written = true;
+                self.accesses[place].written = Some(cell);
             }
         }
     }
 
     /// The vote of an attempt.
-    pub(crate) fn vote(&self, who: Attempt) -> Vote {
+    fn vote(&self, who: Attempt) -> Vote {
         let mut floor = 0;
         for mine in &self.accesses {
             if mine.who == who {
@@ -188,7 +230,7 @@ impl Plain {
     }
 
     /// Ends an attempt, and grants who waited for it: whether these are the wakes.
-    pub(crate) fn end(
+    fn end(
         &mut self,
         alloc: Global,
         who: Attempt,
@@ -247,7 +289,7 @@ impl Plain {
     }
 
     /// How many accesses wait.
-    pub(crate) fn waiting(&self) -> usize {
+    fn waiting(&self) -> usize {
         self.accesses.iter().filter(|access| access.waits).count()
     }
 }

@@ -1,29 +1,41 @@
-//! Lists of calls.
+//! Lists of calls, and what a control says to them.
 ghost use Rattle.std.specs.Prelude.{◌≡◌, [], ◌∷◌, IfOk, OnOk};
 ghost use Rattle.deneva_base.specs.Conditions.{MayPrepare};
 ghost use Rattle.deneva_base.specs.History.{History};
 ghost use Rattle.deneva_base.specs.Rows.{Rows};
-ghost use Rattle.control_trials.specs.Trials.{attempt_of, trial_key, empty_row, no_bound, MayStep, Allowed, answered, voted};
+ghost use Rattle.control_trials.specs.Trials.{attempt_of, trial_key, trial_row, bound_of, MayStep, Allowed, answered, voted};
 
-use crate::plain::Plain;
 use control_core::Control;
-use deneva_base::{Attempt, Bound, Key, Keyed, Mode, NoMemory, Number, Row, RowList, TxnId, Woken};
+use deneva_base::{
+    Answer, Attempt, Bound, Cell, CellList, Key, Keyed, Mode, NoMemory, Number, Row, RowList,
+    TxnId, Vote, Woken,
+};
 use std::alloc::Global;
 
-/// A call of an attempt, by the place of its transaction and its turn. Bounds are 0.
+/// A call of an attempt, by the place of its transaction and its turn.
 #[derive(Clone, Copy, Debug)]
 pub(crate) enum Step {
     /// With its stamp, asks for the key of this number in table 0.
     Ask(u32, u8, u64, u32, Mode),
-    Prepare(u32, u8),
-    /// Prepares with a row without cells for the key of this number.
-    Write(u32, u8, u32),
+    /// With this bound.
+    Prepare(u32, u8, u64),
+    /// Prepares with this bound and a row of one cell, for the key of this number.
+    Write(u32, u8, u64, u32, i64),
     /// Under the number of this `n`.
     Commit(u32, u8, u64),
     Abort(u32, u8),
 }
 
-fn attempt(txn: u32, turn: u8) -> Attempt
+/// What came of a call.
+#[derive(Debug, Drop, PartialEq, Eq)]
+pub(crate) enum Said {
+    Answer(Answer),
+    Vote(Vote),
+    /// Who was woken by an end, and how many accesses wait after it.
+    Ended(Woken, usize),
+}
+
+pub(crate) fn attempt(txn: u32, turn: u8) -> Attempt
     ensures { result ≡ attempt_of txn turn }
 {
     Attempt {
@@ -32,7 +44,7 @@ fn attempt(txn: u32, turn: u8) -> Attempt
     }
 }
 
-fn key(a: u32) -> Key
+pub(crate) fn key(a: u32) -> Key
     ensures { result ≡ trial_key a }
 {
     Key {
@@ -43,96 +55,87 @@ fn key(a: u32) -> Key
     }
 }
 
-fn empty_row(alloc: Global, a: u32) -> Result<RowList, NoMemory>
-    ensures { IfOk result (λ rows. rows ≡ empty_row a ∷ []) }
+/// A row of one cell, for the key of this number.
+fn written(alloc: Global, a: u32, cell: i64) -> Result<RowList, NoMemory>
+    ensures { IfOk result (λ rows. rows ≡ trial_row a cell ∷ []) }
 {
+    let mut cells = CellList::new(alloc);
+    cells.push(Cell::Num(cell))?;
+    let row = Row::of(alloc, cells)?;
     let mut rows = RowList::new(alloc);
-    let row = Row::empty(alloc)?;
     rows.push(Keyed { key: key(a), row })?;
     Ok(rows)
 }
 
-fn no_bound() -> Bound
-    ensures { result ≡ no_bound }
+fn bound(n: u64) -> Bound
+    ensures { result ≡ bound_of n }
 {
-    Bound { n: 0, key: key(0) }
+    Bound { n, key: key(0) }
 }
 
-/// Whether a control and the plain body answer these calls alike.
-pub(crate) fn agree<C: Control>(
+/// What a control says to these calls, one after another.
+pub(crate) fn said_to<C: Control>(
     alloc: Global,
     control: &mut C,
-    plain: &mut Plain,
     steps: &[Step],
-) -> Result<bool, NoMemory>
+) -> Result<Vec<Said>, NoMemory>
     requires allowed { (loaded : Rows) × (h : History) × C.stands control.old loaded h × Allowed loaded (C.rule loaded) h steps.now }
 {
+    let mut all = Vec::new(alloc);
     for step in steps {
-        if !agree_once(alloc, control, plain, *step)? {
-            return Ok(false);
-        }
+        all.push(said_once(alloc, control, *step)?)?;
     }
-    Ok(control.rows()? == plain.rows(alloc)?)
+    Ok(all)
 }
 
-fn agree_once<C: Control>(
-    alloc: Global,
-    control: &mut C,
-    plain: &mut Plain,
-    step: Step,
-) -> Result<bool, NoMemory>
+fn said_once<C: Control>(alloc: Global, control: &mut C, step: Step) -> Result<Said, NoMemory>
     requires allowed { (loaded : Rows) × (h : History) × C.stands control.old loaded h × MayStep loaded h step }
     ensures { OnOk result ((loaded : Rows) (h : History) → C.stands control.old loaded h → MayStep loaded h step → C.stands control.new loaded (answered (C.rule loaded) h step)) }
 {
-    let mut woken = Woken::new(alloc);
     match step {
         Step::Ask(txn, turn, stamp, a, mode) => {
-            let who = attempt(txn, turn);
-            let key = key(a);
-            Ok(control.ask(who, stamp, key, mode)? == plain.ask(alloc, who, stamp, key, mode)?)
+            let answer = control.ask(attempt(txn, turn), stamp, key(a), mode)?;
+            Ok(Said::Answer(answer))
         }
-        Step::Prepare(txn, turn) => agree_on_vote(
-            alloc,
-            control,
-            plain,
-            txn,
-            turn,
-            RowList::new(alloc),
-        ),
-        Step::Write(txn, turn, a) => {
-            plain.write(attempt(txn, turn), key(a));
-            let writes = empty_row(alloc, a)?;
-            agree_on_vote(alloc, control, plain, txn, turn, writes)
+        Step::Prepare(txn, turn, n) => {
+            let writes = RowList::new(alloc);
+            said_to_vote(alloc, control, txn, turn, n, writes)
+        }
+        Step::Write(txn, turn, n, a, cell) => {
+            let writes = written(alloc, a, cell)?;
+            said_to_vote(alloc, control, txn, turn, n, writes)
         }
         Step::Commit(txn, turn, n) => {
             let who = attempt(txn, turn);
             let number = Number { n, id: who.txn };
+            let mut woken = Woken::new(alloc);
             control.commit(who, number, &mut woken)?;
-            Ok(plain.end(alloc, who, Some(n), &woken)? && control.waiting() == plain.waiting())
+            Ok(Said::Ended(woken, control.waiting()))
         }
         Step::Abort(txn, turn) => {
             let who = attempt(txn, turn);
+            let mut woken = Woken::new(alloc);
             control.abort(who, &mut woken)?;
-            Ok(plain.end(alloc, who, None, &woken)? && control.waiting() == plain.waiting())
+            Ok(Said::Ended(woken, control.waiting()))
         }
     }
 }
 
-/// Whether both vote alike on an attempt that is to commit these rows.
-fn agree_on_vote<C: Control>(
+/// The vote on an attempt that is to commit these rows.
+fn said_to_vote<C: Control>(
     alloc: Global,
     control: &mut C,
-    plain: &mut Plain,
     txn: u32,
     turn: u8,
+    n: u64,
     writes: RowList,
-) -> Result<bool, NoMemory>
-    requires allowed { (loaded : Rows) × (h : History) × C.stands control.old loaded h × MayPrepare h (attempt_of txn turn) no_bound writes [] }
-    ensures { OnOk result ((loaded : Rows) (h : History) → C.stands control.old loaded h → MayPrepare h (attempt_of txn turn) no_bound writes [] → C.stands control.new loaded (voted (C.rule loaded) h txn turn writes)) }
+) -> Result<Said, NoMemory>
+    requires allowed { (loaded : Rows) × (h : History) × C.stands control.old loaded h × MayPrepare h (attempt_of txn turn) (bound_of n) writes [] }
+    ensures { OnOk result ((loaded : Rows) (h : History) → C.stands control.old loaded h → MayPrepare h (attempt_of txn turn) (bound_of n) writes [] → C.stands control.new loaded (voted (C.rule loaded) h txn turn n writes)) }
 {
     let who = attempt(txn, turn);
-    let Ok(vote) = control.prepare(who, no_bound(), writes, RowList::new(alloc)) else {
+    let Ok(vote) = control.prepare(who, bound(n), writes, RowList::new(alloc)) else {
         return Err(NoMemory);
     };
-    Ok(vote == plain.vote(who))
+    Ok(Said::Vote(vote))
 }

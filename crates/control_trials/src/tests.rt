@@ -1,10 +1,66 @@
-//! Lists of calls, drawn at random. Each call meets its conditions.
+//! Lists of calls, each of which meets its conditions: some drawn at random, and some whose answers are written out.
 
 use super::*;
 use control_core::Control;
-use deneva_base::{Answer, Attempt, Cell, CellList, Key, Mode, Number, Row, TxnId, Wake, Woken};
+use deneva_base::{
+    Answer, Cause, Cell, CellList, Mode, NoMemory, Number, Row, TxnId, Vote, Wake, Woken,
+};
 use lock_control::Locks;
+use range_control::Ranges;
+use stamp_control::Stamps;
+use std::alloc::Global;
 use std::test::Fail;
+
+/// A row of one cell, or of none.
+fn row_of(alloc: Global, cell: Option<i64>) -> Result<Row, NoMemory> {
+    let mut cells = CellList::new(alloc);
+    if let Some(cell) = cell {
+        cells.push(Cell::Num(cell))?;
+    }
+    Row::of(alloc, cells)
+}
+
+/// A grant of the version that this transaction wrote under the number of this `n`.
+fn granted(
+    alloc: Global,
+    cell: Option<i64>,
+    (n, id): (u64, u32),
+    bound: u64,
+) -> Result<Said, NoMemory> {
+    Ok(Said::Answer(Answer::Granted {
+        row: row_of(alloc, cell)?,
+        version: Number { n, id: TxnId(id) },
+        bound,
+    }))
+}
+
+fn yes(lo: u64, hi: u64) -> Said {
+    Said::Vote(Vote::Yes { lo, hi })
+}
+
+/// An end that wakes the first attempt of this transaction, which waits for key 0, and leaves as many waiting.
+fn wakes(
+    alloc: Global,
+    txn: u32,
+    cell: i64,
+    (n, id): (u64, u32),
+    waiting: usize,
+) -> Result<Said, NoMemory> {
+    let mut woken = Woken::new(alloc);
+    woken.push(Wake {
+        who: attempt(txn, 1),
+        key: key(0),
+        row: row_of(alloc, Some(cell))?,
+        version: Number { n, id: TxnId(id) },
+        bound: 0,
+    })?;
+    Ok(Said::Ended(woken, waiting))
+}
+
+/// An end that wakes nobody.
+fn ends(alloc: Global, waiting: usize) -> Said {
+    Said::Ended(Woken::new(alloc), waiting)
+}
 
 #[test]
 fn no_wait_on_calls_1(rt: HostRuntime) -> Result<(), Fail> {
@@ -14,13 +70,13 @@ fn no_wait_on_calls_1(rt: HostRuntime) -> Result<(), Fail> {
     let steps = [
         Step::Ask(1, 1, 48, 0, Mode::Update),
         Step::Ask(4, 1, 25, 1, Mode::Put),
-        Step::Write(4, 1, 1),
+        Step::Write(4, 1, 0, 1, 11),
         Step::Commit(4, 1, 1),
         Step::Ask(2, 1, 57, 1, Mode::Put),
-        Step::Write(1, 1, 0),
+        Step::Write(1, 1, 0, 0, 12),
         Step::Commit(1, 1, 2),
         Step::Ask(2, 1, 57, 0, Mode::Read),
-        Step::Write(2, 1, 1),
+        Step::Write(2, 1, 0, 1, 13),
         Step::Ask(3, 1, 47, 0, Mode::Read),
         Step::Ask(5, 1, 54, 0, Mode::Read),
         Step::Ask(3, 1, 47, 1, Mode::Update),
@@ -29,7 +85,9 @@ fn no_wait_on_calls_1(rt: HostRuntime) -> Result<(), Fail> {
         Step::Ask(3, 2, 47, 1, Mode::Read),
         Step::Abort(5, 1),
     ];
-    assert!(rt; agree(alloc, &mut locks, &mut plain, &steps)?);
+    let said = said_to(alloc, &mut locks, &steps)?;
+    assert!(rt; plain.agrees(alloc, &steps, &said)?);
+    assert_eq!(rt; locks.rows()?, plain.rows(alloc)?);
     Ok(())
 }
 
@@ -41,22 +99,24 @@ fn no_wait_on_calls_2(rt: HostRuntime) -> Result<(), Fail> {
     let steps = [
         Step::Ask(2, 1, 43, 0, Mode::Update),
         Step::Ask(3, 1, 5, 0, Mode::Read),
-        Step::Write(2, 1, 0),
+        Step::Write(2, 1, 0, 0, 14),
         Step::Commit(2, 1, 1),
         Step::Ask(1, 1, 38, 0, Mode::Read),
         Step::Ask(4, 1, 53, 1, Mode::Update),
         Step::Ask(4, 1, 53, 0, Mode::Read),
-        Step::Write(4, 1, 1),
+        Step::Write(4, 1, 0, 1, 15),
         Step::Commit(4, 1, 3),
         Step::Ask(1, 1, 38, 1, Mode::Read),
         Step::Ask(5, 1, 25, 0, Mode::Update),
         Step::Abort(1, 1),
         Step::Ask(1, 2, 38, 0, Mode::Read),
-        Step::Prepare(1, 2),
+        Step::Prepare(1, 2, 0),
         Step::Abort(3, 1),
         Step::Commit(1, 2, 2),
     ];
-    assert!(rt; agree(alloc, &mut locks, &mut plain, &steps)?);
+    let said = said_to(alloc, &mut locks, &steps)?;
+    assert!(rt; plain.agrees(alloc, &steps, &said)?);
+    assert_eq!(rt; locks.rows()?, plain.rows(alloc)?);
     Ok(())
 }
 
@@ -67,23 +127,25 @@ fn wait_die_on_calls_1(rt: HostRuntime) -> Result<(), Fail> {
     let mut plain = Plain::new(alloc, true);
     let steps = [
         Step::Ask(3, 1, 29, 0, Mode::Update),
-        Step::Write(3, 1, 0),
+        Step::Write(3, 1, 0, 0, 16),
         Step::Commit(3, 1, 2),
         Step::Ask(4, 1, 55, 0, Mode::Update),
         Step::Ask(2, 1, 46, 0, Mode::Read),
         Step::Ask(4, 1, 55, 1, Mode::Update),
         Step::Ask(5, 1, 23, 1, Mode::Update),
         Step::Ask(1, 1, 52, 1, Mode::Put),
-        Step::Write(4, 1, 1),
+        Step::Write(4, 1, 0, 1, 17),
         Step::Commit(4, 1, 3),
         Step::Ask(2, 1, 46, 1, Mode::Read),
-        Step::Write(1, 1, 1),
+        Step::Write(1, 1, 0, 1, 18),
         Step::Commit(1, 1, 5),
-        Step::Prepare(2, 1),
+        Step::Prepare(2, 1, 0),
         Step::Commit(2, 1, 6),
         Step::Ask(5, 1, 23, 0, Mode::Read),
     ];
-    assert!(rt; agree(alloc, &mut locks, &mut plain, &steps)?);
+    let said = said_to(alloc, &mut locks, &steps)?;
+    assert!(rt; plain.agrees(alloc, &steps, &said)?);
+    assert_eq!(rt; locks.rows()?, plain.rows(alloc)?);
     Ok(())
 }
 
@@ -99,18 +161,20 @@ fn wait_die_on_calls_2(rt: HostRuntime) -> Result<(), Fail> {
         Step::Ask(4, 1, 23, 1, Mode::Read),
         Step::Ask(3, 1, 30, 0, Mode::Update),
         Step::Ask(5, 1, 1, 0, Mode::Read),
-        Step::Write(1, 1, 1),
+        Step::Write(1, 1, 0, 1, 19),
         Step::Commit(1, 1, 2),
         Step::Ask(4, 1, 23, 0, Mode::Read),
         Step::Ask(2, 1, 33, 1, Mode::Read),
-        Step::Write(2, 1, 0),
+        Step::Write(2, 1, 0, 0, 20),
         Step::Commit(2, 1, 4),
         Step::Ask(3, 1, 30, 1, Mode::Read),
-        Step::Write(3, 1, 0),
+        Step::Write(3, 1, 0, 0, 21),
         Step::Commit(3, 1, 6),
         Step::Ask(5, 1, 1, 1, Mode::Put),
     ];
-    assert!(rt; agree(alloc, &mut locks, &mut plain, &steps)?);
+    let said = said_to(alloc, &mut locks, &steps)?;
+    assert!(rt; plain.agrees(alloc, &steps, &said)?);
+    assert_eq!(rt; locks.rows()?, plain.rows(alloc)?);
     Ok(())
 }
 
@@ -118,7 +182,6 @@ fn wait_die_on_calls_2(rt: HostRuntime) -> Result<(), Fail> {
 fn an_older_attempt_waits_for_the_younger(rt: HostRuntime) -> Result<(), Fail> {
     let alloc = rt.alloc();
     let mut locks = Locks::<1>::begin(two_rows(alloc)?)?;
-    let mut plain = Plain::new(alloc, true);
     let steps = [
         Step::Ask(1, 1, 30, 0, Mode::Read),
         Step::Ask(2, 1, 20, 0, Mode::Update),
@@ -127,51 +190,79 @@ fn an_older_attempt_waits_for_the_younger(rt: HostRuntime) -> Result<(), Fail> {
         Step::Abort(1, 1),
         Step::Abort(3, 1),
     ];
-    assert!(rt; agree(alloc, &mut locks, &mut plain, &steps)?);
-    assert_eq!(rt; locks.waiting(), 1);
+    let wanted = [
+        granted(alloc, Some(100), (0, 0), 0)?,
+        Said::Answer(Answer::Waits),
+        granted(alloc, Some(100), (0, 0), 0)?,
+        Said::Answer(Answer::Waits),
+        ends(alloc, 2),
+        wakes(alloc, 2, 100, (0, 0), 1)?,
+    ];
+    assert_eq!(rt;
+        said_to(alloc, &mut locks, &steps)?.as_slice(),
+        wanted.as_slice()
+    );
     Ok(())
 }
 
-fn first_of(txn: u32) -> Attempt {
-    Attempt {
-        txn: TxnId(txn),
-        turn: 1,
-    }
+#[test]
+fn a_window_without_numbers_is_refused(rt: HostRuntime) -> Result<(), Fail> {
+    let alloc = rt.alloc();
+    let mut ranges = Ranges::<4096>::begin(two_rows(alloc)?)?;
+    let steps = [
+        Step::Ask(1, 1, 1, 0, Mode::Read),
+        Step::Ask(2, 1, 2, 0, Mode::Update),
+        Step::Write(2, 1, 1, 0, 7),
+        Step::Commit(2, 1, 1),
+        Step::Prepare(1, 1, 1),
+    ];
+    let refused = Cause::EmptyRange {
+        lo: 1,
+        lo_key: key(0),
+        hi: 0,
+        hi_by: attempt(2, 1),
+    };
+    let wanted = [
+        granted(alloc, Some(100), (0, 0), 1)?,
+        granted(alloc, Some(100), (0, 0), 1)?,
+        yes(1, 4096),
+        ends(alloc, 0),
+        Said::Vote(Vote::No(refused)),
+    ];
+    assert_eq!(rt;
+        said_to(alloc, &mut ranges, &steps)?.as_slice(),
+        wanted.as_slice()
+    );
+    Ok(())
 }
 
-/// The answers of the calls above, written out.
 #[test]
-fn the_plain_body_lets_the_older_wait(rt: HostRuntime) -> Result<(), Fail> {
+fn a_put_goes_past_a_smaller_update(rt: HostRuntime) -> Result<(), Fail> {
     let alloc = rt.alloc();
-    let key = Key {
-        table: 0,
-        a: 0,
-        b: 0,
-        c: 0,
-    };
-    let mut plain = Plain::new(alloc, true);
-    for (txn, stamp, mode, waits) in [
-        (1, 30, Mode::Read, false),
-        (2, 20, Mode::Update, true),
-        (3, 25, Mode::Read, false),
-        (4, 10, Mode::Read, true),
-    ] {
-        let answer = plain.ask(alloc, first_of(txn), stamp, key, mode)?;
-        assert_eq!(rt; answer == Answer::Waits, waits, "at {txn}");
-    }
-    let mut woken = Woken::new(alloc);
-    assert!(rt; plain.end(alloc, first_of(1), None, &woken)?);
-    let mut cells = CellList::new(alloc);
-    cells.push(Cell::Num(100))?;
-    let row = Row::of(alloc, cells)?;
-    woken.push(Wake {
-        who: first_of(2),
-        key,
-        row,
-        version: Number { n: 0, id: TxnId(0) },
-        bound: 0,
-    })?;
-    assert!(rt; plain.end(alloc, first_of(3), None, &woken)?);
-    assert_eq!(rt; plain.waiting(), 1);
+    let mut stamps = Stamps::begin(two_rows(alloc)?)?;
+    let steps = [
+        Step::Ask(1, 1, 1, 0, Mode::Update),
+        Step::Ask(2, 1, 3, 0, Mode::Put),
+        Step::Ask(3, 1, 2, 0, Mode::Read),
+        Step::Write(2, 1, 0, 0, 7),
+        Step::Commit(2, 1, 3),
+        Step::Write(1, 1, 0, 0, 6),
+        Step::Commit(1, 1, 1),
+    ];
+    let wanted = [
+        granted(alloc, Some(100), (0, 0), 0)?,
+        granted(alloc, None, (0, 0), 0)?,
+        Said::Answer(Answer::Waits),
+        yes(3, 3),
+        ends(alloc, 1),
+        yes(1, 1),
+        wakes(alloc, 3, 6, (1, 1), 0)?,
+    ];
+    assert_eq!(rt;
+        said_to(alloc, &mut stamps, &steps)?.as_slice(),
+        wanted.as_slice()
+    );
+    let rows = stamps.rows()?;
+    assert_eq!(rt; rows.get(0).row, row_of(alloc, Some(7))?);
     Ok(())
 }

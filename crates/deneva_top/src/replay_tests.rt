@@ -6,7 +6,7 @@ use std::alloc::Global;
 use std::test::Fail;
 
 /// The words of the protocols that have nodes.
-const PROTOCOLS: [&str; 3] = ["nowait", "waitdie", "maat"];
+const PROTOCOLS: [&str; 5] = ["nowait", "waitdie", "timestamp", "mvcc", "maat"];
 
 const ROOM: usize = 10_000;
 
@@ -18,6 +18,11 @@ const TWO_UPDATES: &str = "deneva,1,ycsb,1\nrow,1,a\ntxn,u,1,0,x\ntxn,u,1,0,y\ne
 
 const WRITE_SKEW: &str =
     "deneva,1,ycsb,1\nrow,1,a\nrow,2,b\ntxn,r,1,u,2,0,p\ntxn,r,2,u,1,0,q\nend\n";
+
+const OLD_READ: &str = "deneva,1,ycsb,1\nrow,1,a\nrow,9,b\ntxn,r,9,r,1\ntxn,u,1,0,y\nend\n";
+
+/// Under the orders below transaction 2 ends before 1 puts its row, and reads nothing of what it puts.
+const PUTS: &str = "deneva,2,ycsb,1\nrow,1,a\nrow,9,b\ntxn,r,9,p,1,x\ntxn,p,1,y\nend\n";
 
 /// The words of a command line, which are separated by one space each.
 fn words_in(alloc: Global, line: &str) -> Result<Vec<String>, NoMemory> {
@@ -37,29 +42,33 @@ fn run(alloc: Global, line: &str, input: &str) -> Result<(u8, SureSink), NoMemor
     Ok((ended.status, sink))
 }
 
+/// Whether a run reports this, below its first line.
+fn reports(
+    alloc: Global,
+    protocol: &str,
+    order: &str,
+    parts: &str,
+    input: &str,
+    text: &str,
+) -> Result<bool, NoMemory> {
+    let line = format!(in alloc;
+        "replay --protocol {protocol} --order {order} --partitions {parts}"
+    )?;
+    let (status, sink) = run(alloc, line.as_str(), input)?;
+    let whole = format!(in alloc; "deneva-report,1,{protocol},{parts}\n{text}")?;
+    Ok(status == 0 && sink.bytes() == whole.as_bytes())
+}
+
 #[test]
 fn no_transaction_and_one_update(rt: HostRuntime) -> Result<(), Fail> {
     let alloc = rt.alloc();
-    for protocol in PROTOCOLS {
-        for order in ["fifo", "lifo", "seed:1"] {
-            for parts in ["1", "16"] {
-                let line = format!(in alloc;
-                    "replay --protocol {protocol} --order {order} --partitions {parts}"
-                )?;
-                let (status, sink) = run(alloc, line.as_str(), NO_TRANSACTION)?;
-                assert_eq!(rt; status, 0);
-                let text = format!(in alloc;
-                    "deneva-report,1,{protocol},{parts}\nrow,0.2.0.0,b\nrow,0.5.0.0,a\nend\n"
-                )?;
-                assert_eq!(rt; sink.bytes(), text.as_bytes());
-            }
-            let line = format!(in alloc; "replay --order {order} --protocol {protocol}")?;
-            let (status, sink) = run(alloc, line.as_str(), ONE_UPDATE)?;
-            assert_eq!(rt; status, 0);
-            let text = format!(in alloc;
-                "deneva-report,1,{protocol},1\ncommit,1,1,0,0\nread,0.1.0.0,a\nrow,0.1.0.0,z\nend\n"
-            )?;
-            assert_eq!(rt; sink.bytes(), text.as_bytes());
+    let rows = "row,0.2.0.0,b\nrow,0.5.0.0,a\nend\n";
+    let one = "commit,1,1,0,0\nread,0.1.0.0,a\nrow,0.1.0.0,z\nend\n";
+    for protocol in &PROTOCOLS {
+        for order in &["fifo", "lifo", "seed:1"] {
+            assert!(rt; reports(alloc, protocol, order, "1", NO_TRANSACTION, rows)?);
+            assert!(rt; reports(alloc, protocol, order, "16", NO_TRANSACTION, rows)?);
+            assert!(rt; reports(alloc, protocol, order, "1", ONE_UPDATE, one)?);
         }
     }
     Ok(())
@@ -167,9 +176,68 @@ fn windows_of_maat(rt: HostRuntime) -> Result<(), Fail> {
 }
 
 #[test]
+fn stamps_of_timestamp(rt: HostRuntime) -> Result<(), Fail> {
+    let cases = [
+        // The second attempt of transaction 1 has the stamp 4.
+        (
+            "--protocol timestamp",
+            "deneva,1,ycsb,1\nrow,1,a\nrow,9,b\ntxn,r,9,u,1,0,x\ntxn,r,1\nend\n",
+            "deneva-report,1,timestamp,1\ncommit,2,2,0,0\nread,0.1.0.0,a\ncommit,4,1,0,0\nread,0.9.0.0,b\nread,0.1.0.0,a\nabort,1,1,6,0,readlater,0.1.0.0,2\nrow,0.1.0.0,x\nrow,0.9.0.0,b\nend\n",
+        ),
+        // The read at stamp 1 meets the write of 2.
+        (
+            "--protocol timestamp --order list:0.0.1.1.1.1.1.1",
+            OLD_READ,
+            "deneva-report,1,timestamp,1\ncommit,2,2,0,0\nread,0.1.0.0,a\ncommit,4,1,0,0\nread,0.9.0.0,b\nread,0.1.0.0,y\nabort,1,1,10,0,written,0.1.0.0,2\nrow,0.1.0.0,y\nrow,0.9.0.0,b\nend\n",
+        ),
+        (
+            "--protocol timestamp",
+            WRITE_SKEW,
+            "deneva-report,1,timestamp,1\ncommit,2,2,0,0\nread,0.2.0.0,b\nread,0.1.0.0,a\ncommit,4,1,0,0\nread,0.1.0.0,q\nread,0.2.0.0,b\nabort,1,1,6,0,readlater,0.2.0.0,2\nrow,0.1.0.0,q\nrow,0.2.0.0,p\nend\n",
+        ),
+        // The put of the smaller stamp ends last, and the row of the greater one stays.
+        (
+            "--protocol timestamp --order list:0.0.1.1.1.1.1.1",
+            PUTS,
+            "deneva-report,1,timestamp,1\ncommit,1,1,0,0\nread,0.9.0.0,b\ncommit,2,2,0,0\nrow,0.1.0.0,y\nrow,0.9.0.0,b\nend\n",
+        ),
+    ];
+    assert_eq!(rt; first_other(rt.alloc(), &cases)?, None);
+    Ok(())
+}
+
+#[test]
+fn versions_of_mvcc(rt: HostRuntime) -> Result<(), Fail> {
+    let cases = [
+        // The read at stamp 1 is served from the first version.
+        (
+            "--protocol mvcc --order list:0.0.1.1.1.1.1.1",
+            OLD_READ,
+            "deneva-report,1,mvcc,1\ncommit,1,1,0,0\nread,0.9.0.0,b\nread,0.1.0.0,a\ncommit,2,2,0,0\nread,0.1.0.0,a\nrow,0.1.0.0,y\nrow,0.9.0.0,b\nend\n",
+        ),
+        (
+            "--protocol mvcc",
+            WRITE_SKEW,
+            "deneva-report,1,mvcc,1\ncommit,2,2,0,0\nread,0.2.0.0,b\nread,0.1.0.0,a\ncommit,4,1,0,0\nread,0.1.0.0,q\nread,0.2.0.0,b\nabort,1,1,6,0,readlater,0.2.0.0,2\nrow,0.1.0.0,q\nrow,0.2.0.0,p\nend\n",
+        ),
+        // Four versions are kept, so with the fourth update the loaded row is gone.
+        (
+            "--protocol mvcc --order list:0.0.4.4.4.4.4.4.0.3.3.3.3.3.3.0.2.2.2.2.2.2.0.1.1.1.1.1.1",
+            "deneva,1,ycsb,1\nrow,1,a\nrow,9,b\ntxn,r,9,r,1\ntxn,u,1,0,w\ntxn,u,1,0,x\ntxn,u,1,0,y\ntxn,u,1,0,z\nend\n",
+            "deneva-report,1,mvcc,1\ncommit,2,2,0,0\nread,0.1.0.0,a\ncommit,3,3,0,0\nread,0.1.0.0,w\ncommit,4,4,0,0\nread,0.1.0.0,x\ncommit,5,5,0,0\nread,0.1.0.0,y\ncommit,6,1,0,0\nread,0.9.0.0,b\nread,0.1.0.0,z\nabort,1,1,31,0,trimmed,0.1.0.0,2\nrow,0.1.0.0,z\nrow,0.9.0.0,b\nend\n",
+        ),
+        (
+            "--protocol mvcc --order list:0.0.1.1.1.1.1.1",
+            PUTS,
+            "deneva-report,1,mvcc,1\ncommit,1,1,0,0\nread,0.9.0.0,b\ncommit,2,2,0,0\nrow,0.1.0.0,y\nrow,0.9.0.0,b\nend\n",
+        ),
+    ];
+    assert_eq!(rt; first_other(rt.alloc(), &cases)?, None);
+    Ok(())
+}
+
+#[test]
 fn several_partitions_and_puts(rt: HostRuntime) -> Result<(), Fail> {
-    // Transaction 2 ends while 1 waits to be delivered, and reads nothing of what it puts.
-    let puts = "deneva,2,ycsb,1\nrow,1,a\nrow,9,b\ntxn,r,9,p,1,x\ntxn,p,1,y\nend\n";
     let cases = [
         (
             "--protocol nowait --partitions 2",
@@ -185,17 +253,17 @@ fn several_partitions_and_puts(rt: HostRuntime) -> Result<(), Fail> {
         ),
         (
             "--protocol nowait --order list:0.0.1.1.1.1.1.1",
-            puts,
+            PUTS,
             "deneva-report,1,nowait,1\ncommit,1,2,0,0\ncommit,2,1,0,0\nread,0.9.0.0,b\nrow,0.1.0.0,x\nrow,0.9.0.0,b\nend\n",
         ),
         (
             "--protocol waitdie --order list:0.0.1.1.1.1.1.1",
-            puts,
+            PUTS,
             "deneva-report,1,waitdie,1\ncommit,1,2,0,0\ncommit,2,1,0,0\nread,0.9.0.0,b\nrow,0.1.0.0,x\nrow,0.9.0.0,b\nend\n",
         ),
         (
             "--protocol maat --order list:0.0.1.1.1.1.1.1",
-            puts,
+            PUTS,
             "deneva-report,1,maat,1\ncommit,1,2,0,0\ncommit,2,1,0,0\nread,0.9.0.0,b\nrow,0.1.0.0,x\nrow,0.9.0.0,b\nend\n",
         ),
     ];
@@ -205,26 +273,23 @@ fn several_partitions_and_puts(rt: HostRuntime) -> Result<(), Fail> {
 
 #[test]
 fn words_of_replay_that_are_refused(rt: HostRuntime) -> Result<(), Fail> {
-    for (words, status) in [
-        ("--protocol nowait --partitions 17", 2),
-        ("--protocol nowait --attempts 9", 2),
-        ("--protocol nowait --partitions 01", 2),
-        ("--protocol nowait --protocol nowait", 2),
-        ("--protocol nowait --brief", 2),
-        ("--partitions 2", 2),
-        // There are no nodes for these yet.
-        ("--protocol timestamp", 2),
-        ("--protocol mvcc", 2),
-        ("--protocol calvin", 2),
-        ("--partitions 16 --attempts 8 --protocol waitdie", 0),
-    ] {
-        let line = format!(in rt.alloc(); "replay {words}")?;
-        let (ended, sink) = run(rt.alloc(), line.as_str(), TWO_UPDATES)?;
-        assert_eq!(rt; ended, status);
-        if status == 2 {
-            assert_eq!(rt; sink.bytes(), b"fault,words\n".as_slice());
-        }
+    // There are no nodes for the last of these yet.
+    let refused = [
+        "replay --protocol nowait --partitions 17",
+        "replay --protocol nowait --attempts 9",
+        "replay --protocol nowait --partitions 01",
+        "replay --protocol nowait --protocol nowait",
+        "replay --protocol nowait --brief",
+        "replay --partitions 2",
+        "replay --protocol calvin",
+    ];
+    for line in &refused {
+        let (status, sink) = run(rt.alloc(), line, TWO_UPDATES)?;
+        assert_eq!(rt; status, 2);
+        assert_eq!(rt; sink.bytes(), b"fault,words\n".as_slice());
     }
+    let most = "replay --partitions 16 --attempts 8 --protocol waitdie";
+    assert_eq!(rt; run(rt.alloc(), most, TWO_UPDATES)?.0, 0);
     Ok(())
 }
 
@@ -234,27 +299,40 @@ fn only(alloc: Global, number: u32) -> Result<CountList, NoMemory> {
     Ok(numbers)
 }
 
+/// The status of a run whose source fails at this read and whose sink fails at this write, and how many entries the run that
+/// it kept has.
+fn run_failing(
+    alloc: Global,
+    protocol: &str,
+    read: u32,
+    write: u32,
+) -> Result<(u8, Option<usize>), NoMemory> {
+    let line = format!(in alloc; "replay --protocol {protocol}")?;
+    let words = words_in(alloc, line.as_str())?;
+    let bytes = ByteList::from_bytes(alloc, ONE_UPDATE.as_bytes())?;
+    let mut source = MemSource::new(bytes, only(alloc, read)?);
+    let mut sink = MemSink::new(alloc, ROOM, only(alloc, write)?)?;
+    let ended = deneva(alloc, &words, &mut source, &mut sink);
+    Ok((ended.status, ended.run.map(|run| run.history.len())))
+}
+
 #[test]
 fn a_run_is_kept_at_status_0_alone(rt: HostRuntime) -> Result<(), Fail> {
-    for protocol in PROTOCOLS {
-        let line = format!(in rt.alloc(); "replay --protocol {protocol}")?;
-        let words = words_in(rt.alloc(), line.as_str())?;
-        // The source is read once for its bytes and once for its end; the report is one piece. The run has a Start, an Ask, a
-        // Granted, a Prepare, a Yes, a Commit and a Done.
-        for (read, write, status, entries) in [
-            (0, 9, 4, None),
-            (1, 9, 4, None),
-            (2, 9, 0, Some(7)),
-            (9, 0, 5, None),
-            (9, 1, 0, Some(7)),
-            (0, 0, 5, None),
-        ] {
-            let bytes = ByteList::from_bytes(rt.alloc(), ONE_UPDATE.as_bytes())?;
-            let mut source = MemSource::new(bytes, only(rt.alloc(), read)?);
-            let mut sink = MemSink::new(rt.alloc(), ROOM, only(rt.alloc(), write)?)?;
-            let ended = deneva(rt.alloc(), &words, &mut source, &mut sink);
-            assert_eq!(rt; ended.status, status);
-            assert_eq!(rt; ended.run.map(|run| run.history.len()), entries);
+    // The source is read once for its bytes and once for its end; the report is one piece. The run has a Start, an Ask, a
+    // Granted, a Prepare, a Yes, a Commit and a Done.
+    let cases = [
+        (0, 9, 4, None),
+        (1, 9, 4, None),
+        (2, 9, 0, Some(7)),
+        (9, 0, 5, None),
+        (9, 1, 0, Some(7)),
+        (0, 0, 5, None),
+    ];
+    for protocol in &PROTOCOLS {
+        for (read, write, status, entries) in &cases {
+            let (ended, kept) = run_failing(rt.alloc(), protocol, *read, *write)?;
+            assert_eq!(rt; ended, *status);
+            assert_eq!(rt; kept, *entries);
         }
     }
     Ok(())

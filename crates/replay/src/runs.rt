@@ -5,12 +5,14 @@ ghost use Rattle.txn_program.specs.Valid.{IsValid};
 ghost use Rattle.replay.specs.Replayed as spec;
 ghost use Rattle.replay.specs.Replayed.{Replays};
 
+use chain_control::Chains;
 use deneva_base::{Config, NoMemory, Protocol};
 use lock_control::Locks;
 use node_core::Node;
 use range_control::Ranges;
 use report::outcome_of;
 use server_core::{History, Outcome, Schedule, Server, runs_are_right};
+use stamp_control::Stamps;
 use std::alloc::Global;
 use txn_program::Workload;
 use world::{World, run_all};
@@ -26,10 +28,7 @@ pub struct Ran {
 pub fn is_built(protocol: Protocol) -> bool
     ensures { result ≡ spec.is_built protocol }
 {
-    matches!(
-        protocol,
-        Protocol::NoWait | Protocol::WaitDie | Protocol::Maat
-    )
+    !matches!(protocol, Protocol::Calvin)
 }
 
 /// The run of these nodes that a schedule picks.
@@ -68,7 +67,9 @@ pub fn replay(
     match config.protocol {
         Protocol::NoWait => run_in::<Node<Locks<0>>>(alloc, config, work, schedule),
         Protocol::WaitDie => run_in::<Node<Locks<1>>>(alloc, config, work, schedule),
+        Protocol::Timestamp => run_in::<Node<Stamps>>(alloc, config, work, schedule),
+        Protocol::Mvcc => run_in::<Node<Chains<4>>>(alloc, config, work, schedule),
         Protocol::Maat => run_in::<Node<Ranges<4096>>>(alloc, config, work, schedule),
-        Protocol::Timestamp | Protocol::Mvcc | Protocol::Calvin => unreachable!(),
+        Protocol::Calvin => unreachable!(),
     }
 }

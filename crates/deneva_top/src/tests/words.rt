@@ -14,6 +14,26 @@ fn command(alloc: Global, line: &str) -> Result<Option<Command>, NoMemory> {
     command_of(alloc, &words)
 }
 
+/// A run under NO_WAIT: its words, partitions, attempts and limit.
+type Case<'t> = (&'t str, u8, u8, u8);
+
+/// The first of the runs that has another configuration.
+fn first_other_config(alloc: Global, cases: &[Case]) -> Result<Option<usize>, NoMemory> {
+    for index in 0..cases.len() {
+        let (line, parts, attempts, limit) = cases[index];
+        let config = Config {
+            protocol: Protocol::NoWait,
+            parts,
+            attempts,
+            limit,
+        };
+        if command(alloc, line)? != Some(Command::Replay(config, Schedule::Fifo)) {
+            return Ok(Some(index));
+        }
+    }
+    Ok(None)
+}
+
 #[test]
 fn the_options_are_in_any_order(rt: HostRuntime) -> Result<(), Fail> {
     let cases = [
@@ -31,18 +51,7 @@ fn the_options_are_in_any_order(rt: HostRuntime) -> Result<(), Fail> {
             2,
         ),
     ];
-    for (line, parts, attempts, limit) in cases {
-        let config = Config {
-            protocol: Protocol::NoWait,
-            parts,
-            attempts,
-            limit,
-        };
-        assert_eq!(rt;
-            command(rt.alloc(), line)?,
-            Some(Command::Replay(config, Schedule::Fifo))
-        );
-    }
+    assert_eq!(rt; first_other_config(rt.alloc(), &cases)?, None);
     Ok(())
 }
 
@@ -67,29 +76,37 @@ fn each_protocol_has_its_word(rt: HostRuntime) -> Result<(), Fail> {
         ("replay --protocol maat", Protocol::Maat),
         ("replay --protocol calvin", Protocol::Calvin),
     ];
-    for (line, protocol) in cases {
-        assert_eq!(rt; command(rt.alloc(), line)?, plain(protocol, Schedule::Fifo));
+    for (line, protocol) in &cases {
+        assert_eq!(rt;
+            command(rt.alloc(), line)?,
+            plain(*protocol, Schedule::Fifo)
+        );
     }
     Ok(())
 }
 
 #[test]
 fn an_order_is_a_schedule(rt: HostRuntime) -> Result<(), Fail> {
-    let cases = [
-        ("replay --order fifo --protocol mvcc", Schedule::Fifo),
-        ("replay --order lifo --protocol mvcc", Schedule::Lifo),
-        ("replay --order seed:0 --protocol mvcc", Schedule::Seed(0)),
+    let fifo = command(rt.alloc(), "replay --order fifo --protocol mvcc")?;
+    assert_eq!(rt; fifo, plain(Protocol::Mvcc, Schedule::Fifo));
+    let lifo = command(rt.alloc(), "replay --order lifo --protocol mvcc")?;
+    assert_eq!(rt; lifo, plain(Protocol::Mvcc, Schedule::Lifo));
+    let seeds = [
+        ("replay --order seed:0 --protocol mvcc", 0),
         (
             "replay --order seed:4294967296 --protocol mvcc",
-            Schedule::Seed(4_294_967_296),
+            4_294_967_296,
         ),
         (
             "replay --order seed:18446744073709551615 --protocol mvcc",
-            Schedule::Seed(u64::MAX),
+            u64::MAX,
         ),
     ];
-    for (line, schedule) in cases {
-        assert_eq!(rt; command(rt.alloc(), line)?, plain(Protocol::Mvcc, schedule));
+    for (line, seed) in &seeds {
+        assert_eq!(rt;
+            command(rt.alloc(), line)?,
+            plain(Protocol::Mvcc, Schedule::Seed(*seed))
+        );
     }
     Ok(())
 }
@@ -133,9 +150,19 @@ fn an_order_lists_numbers(rt: HostRuntime) -> Result<(), Fail> {
     Ok(())
 }
 
+/// The first of the lines that gives a command.
+fn first_command(alloc: Global, lines: &[&str]) -> Result<Option<usize>, NoMemory> {
+    for index in 0..lines.len() {
+        if command(alloc, lines[index])?.is_some() {
+            return Ok(Some(index));
+        }
+    }
+    Ok(None)
+}
+
 #[test]
 fn other_words_give_no_command(rt: HostRuntime) -> Result<(), Fail> {
-    for line in [
+    let lines = [
         "",
         "run",
         "Serial",
@@ -144,7 +171,16 @@ fn other_words_give_no_command(rt: HostRuntime) -> Result<(), Fail> {
         "replay",
         "replay serial",
         "--protocol nowait",
-        // Values beyond their ranges, or none.
+    ];
+    assert_eq!(rt; first_command(rt.alloc(), &lines)?, None);
+    assert_eq!(rt; command_of(rt.alloc(), &[])?, None);
+    assert_eq!(rt; command(rt.alloc(), "serial")?, Some(Command::Serial));
+    Ok(())
+}
+
+#[test]
+fn values_beyond_their_ranges_give_no_command(rt: HostRuntime) -> Result<(), Fail> {
+    let lines = [
         "replay --protocol nowait --partitions 0",
         "replay --protocol nowait --partitions 17",
         "replay --protocol nowait --partitions 01",
@@ -160,7 +196,15 @@ fn other_words_give_no_command(rt: HostRuntime) -> Result<(), Fail> {
         "replay --protocol NoWait",
         "replay --protocol serial",
         "replay --protocol ",
-        // Options that are required, repeated, unknown, without a value or of another form.
+    ];
+    assert_eq!(rt; first_command(rt.alloc(), &lines)?, None);
+    Ok(())
+}
+
+/// Options that are required, repeated, unknown, without a value or of another form.
+#[test]
+fn options_of_another_form_give_no_command(rt: HostRuntime) -> Result<(), Fail> {
+    let lines = [
         "replay --partitions 2",
         "replay --protocol nowait --protocol nowait",
         "replay --protocol nowait --partitions 2 --partitions 3",
@@ -176,7 +220,14 @@ fn other_words_give_no_command(rt: HostRuntime) -> Result<(), Fail> {
         "replay --protocol=nowait",
         "replay --protocol",
         "replay nowait --protocol",
-        // Orders.
+    ];
+    assert_eq!(rt; first_command(rt.alloc(), &lines)?, None);
+    Ok(())
+}
+
+#[test]
+fn other_orders_give_no_command(rt: HostRuntime) -> Result<(), Fail> {
+    let lines = [
         "replay --protocol nowait --order random",
         "replay --protocol nowait --order seed",
         "replay --protocol nowait --order seed:",
@@ -190,10 +241,7 @@ fn other_words_give_no_command(rt: HostRuntime) -> Result<(), Fail> {
         "replay --protocol nowait --order list:1,2",
         "replay --protocol nowait --order list:00",
         "replay --protocol nowait --order list:4294967296",
-    ] {
-        assert_eq!(rt; command(rt.alloc(), line)?, None);
-    }
-    assert_eq!(rt; command_of(rt.alloc(), &[])?, None);
-    assert_eq!(rt; command(rt.alloc(), "serial")?, Some(Command::Serial));
+    ];
+    assert_eq!(rt; first_command(rt.alloc(), &lines)?, None);
     Ok(())
 }

@@ -11,7 +11,7 @@ use Rattle.control_trials.proofs.tests.an_older_attempt_waits_for_the_younger.Go
 abbrev steps : List Step
 steps = Ask 1 1 30 0 Read ∷ Ask 2 1 20 0 Update ∷ Ask 3 1 25 0 Read ∷ Ask 4 1 10 0 Read ∷ Abort 1 1 ∷ Abort 3 1 ∷ []
 
-pub agree-requires-clause-allowed : goal.agree-requires-clause-allowed
-agree-requires-clause-allowed g c κs =
+pub said_to-requires-clause-allowed : goal.said_to-requires-clause-allowed
+said_to-requires-clause-allowed g c κs =
     let rows = row_in c.in_ok-two_rows.field-0 in
     (rows, [], c.in_ok-locks.ensures.stands, allowed rows c.in_ok-two_rows.ensures.rows (wait_die rows) [] steps refl)

@@ -1,0 +1,155 @@
+-- What the calls of a control change.
+use Rattle.std.specs.Prelude.{◌≡◌, ◌⊎◌, ℕ, ◌+◌, ◌≤◌, List, [], ◌∷◌, length, Bool, true, ◌&&◌, ltb, cond, Option, Some, None, option_map}
+use Rattle.deneva_base.specs.declared.keys.Key.{Key}
+use Rattle.deneva_base.specs.declared.keys.Mode.{Mode}
+use Rattle.deneva_base.specs.declared.numbers.Attempt.{Attempt}
+use Rattle.deneva_base.specs.declared.numbers.Number.{Number}
+use Rattle.deneva_base.specs.declared.rows.Keyed.{Keyed}
+use Rattle.deneva_base.specs.declared.rows.Cell.{Cell}
+use Rattle.deneva_base.specs.declared.answers.Wake.{Wake}
+use Rattle.deneva_base.specs.Keys.{key_eq, number_lt, loaded_version}
+use Rattle.deneva_base.specs.Latest.{row_for}
+use Rattle.deneva_base.specs.Modes.{reads}
+use Rattle.row_store.specs.declared.versions.Version.{Version}
+use Rattle.row_store.specs.Stores.{Seen, version_at, newest}
+use Rattle.chain_control.specs.declared.requests.Request.{Request}
+use Rattle.chain_control.specs.declared.requests.Waiter.{Waiter}
+use Rattle.chain_control.specs.declared.links.Link.{Link}
+use Rattle.chain_control.specs.declared.lines.Lines.{Lines}
+use Rattle.chain_control.specs.declared.table.Table.{Table}
+use Rattle.chain_control.specs.Chains.{Chain, with_request, with_grant}
+use Rattle.chain_control.specs.Tables.{chain_at, opened_in, below_in, changed, key_of, row_key, waiter_key, commits_at, ends_at, wakes_at, trims_at, SetsChain, SameChains}
+use Rattle.chain_control.specs.Holdings.{Holding, holding_at, nothing, with_key, with_rows, SetsHolding, SameHolding}
+
+-- the row and the number of a version, or no cells
+abbrev pub read_of : Option Link → List Cell × Number
+read_of None = ([], loaded_version)
+read_of (Some l) = (l.row, l.number)
+
+-- what an access is granted where this is the version below its stamp
+abbrev pub read_in : Mode → Option Link → List Cell × Number
+read_in mode best = cond (reads mode) (read_of best) ([], loaded_version)
+
+-- a number stands between that version and the stamp
+abbrev pub above : Number → Option Link → Bool
+above number None = true
+above number (Some l) = number_lt l.number number
+
+abbrev pub comes_after : Number → ℕ → Option Link → Bool
+comes_after number stamp best = ltb number.n stamp && above number best
+
+-- the version below the stamp after a row came under a number, if there are both
+abbrev pub read_after : Option Number → Option (List Cell) → ℕ → Option Link → List Cell × Number
+read_after None row stamp best = read_of best
+read_after (Some number) None stamp best = read_of best
+read_after (Some number) (Some row) stamp best = cond (comes_after number stamp best) (row, number) (read_of best)
+
+-- the wake of a request, when these rows are written where there is a number
+abbrev pub wake_for : Lines → Option Number → List Keyed → Waiter → Wake
+wake_for t number rows w =
+    let r = read_after number (row_for w.key rows) w.stamp (below_in w.stamp (chain_at t w.key)) in
+    record { who = w.who; key = w.key; row = r.0; version = r.1; bound = 0 }
+
+-- the request waits for that version
+abbrev pub waiting : Request → Option Link → Request
+waiting r best = record { who = r.who; stamp = r.stamp; mode = r.mode; waits = Some (read_of best).1 }
+
+-- a table of this store, on which nothing was called
+pub record IsFresh (s : Seen) (t : Table) : Type 0 where
+  pub store : t.store ≡ s
+  pub lines : (key : Key) → chain_at t.lines key ≡ None
+  pub parts : (who : Attempt) → holding_at t.parts who ≡ nothing
+  pub promised : t.promised ≡ 0
+  pub waiting : t.waiting ≡ 0
+
+-- what is kept of a key that has this version
+abbrev pub opened_with : Option Version → Option Chain → Option Chain
+opened_with None c = c
+opened_with (Some v) c = opened_in v c
+
+-- what is kept of the key is there
+pub record Opens (key : Key) (old new : Table) : Type 0 where
+  pub store : new.store ≡ old.store
+  pub lines : SetsChain old.lines key (opened_with (version_at old.store key) (chain_at old.lines key)) new.lines
+  pub parts : new.parts ≡ old.parts
+  pub promised : new.promised ≡ old.promised
+  pub waiting : new.waiting ≡ old.waiting
+
+-- nothing has changed
+pub record Stays (old new : Table) : Type 0 where
+  pub store : new.store ≡ old.store
+  pub lines : SameChains old.lines new.lines
+  pub parts : new.parts ≡ old.parts
+  pub promised : new.promised ≡ old.promised
+  pub waiting : new.waiting ≡ old.waiting
+
+-- one more access, granted with the version of this number
+pub record Grants (key : Key) (version : Number) (asked : Request) (old new : Table) : Type 0 where
+  pub store : new.store ≡ old.store
+  pub lines : SetsChain old.lines key (option_map (with_grant version asked) (chain_at old.lines key)) new.lines
+  pub parts : SetsHolding old.parts asked.who (with_key key (holding_at old.parts asked.who)) new.parts
+  pub promised : new.promised ≡ old.promised
+  pub waiting : new.waiting ≡ old.waiting
+
+-- one more access, which waits
+pub record Waiting (key : Key) (asked : Request) (old new : Table) : Type 0 where
+  pub store : new.store ≡ old.store
+  pub lines : SetsChain old.lines key (option_map (with_request asked) (chain_at old.lines key)) new.lines
+  pub parts : SetsHolding old.parts asked.who (with_key key (holding_at old.parts asked.who)) new.parts
+  pub promised : new.promised ≡ old.promised
+  pub waiting : new.waiting ≡ old.waiting + 1
+
+-- at most the key is noted
+pub record MayNote (who : Attempt) (key : Key) (old new : Table) : Type 0 where
+  pub store : new.store ≡ old.store
+  pub lines : SameChains old.lines new.lines
+  pub parts : SameHolding old.parts new.parts ⊎ SetsHolding old.parts who (with_key key (holding_at old.parts who)) new.parts
+  pub promised : new.promised ≡ old.promised
+  pub waiting : new.waiting ≡ old.waiting
+
+-- the attempt's rows are kept, with room for those that it appends
+pub record Promises (who : Attempt) (writes appends : List Keyed) (old new : Table) : Type 0 where
+  pub versions : new.store.versions ≡ old.store.versions
+  pub lines : SameChains old.lines new.lines
+  pub parts : SetsHolding old.parts who (with_rows writes writes appends (holding_at old.parts who)) new.parts
+  pub promised : new.promised ≡ old.promised + length appends
+  pub room : new.promised ≤ new.store.spare
+  pub waiting : new.waiting ≡ old.waiting
+
+-- at most the store has more room
+pub record MayReserve (old new : Table) : Type 0 where
+  pub versions : new.store.versions ≡ old.store.versions
+  pub lines : SameChains old.lines new.lines
+  pub parts : SameHolding old.parts new.parts
+  pub promised : new.promised ≡ old.promised
+  pub room : old.store.spare ≤ new.store.spare
+  pub waiting : new.waiting ≡ old.waiting
+
+-- what a key has after these rows came under a number
+abbrev pub offered : Number → List Keyed → Key → Option Version → Option Version
+offered number [] key v = v
+offered number (r ∷ rows) key v = offered number rows key (cond (key_eq r.key key) (newest v (record { number = number; row = r.row })) v)
+
+-- the version of a key after the attempt ended
+abbrev pub row_left : Option Number → List Keyed → List Keyed → Key → Option Version → Option Version
+row_left None writes appends key v = v
+row_left (Some number) writes appends key v = offered number appends key (offered number writes key v)
+
+-- what is kept of a key after the rows were written under a number
+abbrev pub commits_left : ℕ → Attempt → Option Number → List Keyed → Key → Option Chain → Option Chain
+commits_left keep who None rows key c = c
+commits_left keep who (Some number) rows key c = changed row_key (commits_at keep who number) rows key c
+
+-- and after the attempt's requests were taken out, those of the front were granted, and versions were dropped
+abbrev pub chain_left : ℕ → Attempt → Option Number → Holding → List Waiter → Key → Option Chain → Option Chain
+chain_left keep who number p front key c =
+    changed key_of trims_at p.keys key (changed waiter_key wakes_at front key (changed key_of (ends_at who) p.keys key (commits_left keep who number p.versions key c)))
+
+-- the attempt ended
+pub record Ends (keep : ℕ) (who : Attempt) (number : Option Number) (front : List Waiter) (old new : Table) : Type 0 where
+  pub versions : (key : Key) → version_at new.store key ≡ row_left number (holding_at old.parts who).writes (holding_at old.parts who).appends key (version_at old.store key)
+  pub lines : (key : Key) → chain_at new.lines key ≡ chain_left keep who number (holding_at old.parts who) front key (chain_at old.lines key)
+  pub parts : SetsHolding old.parts who nothing new.parts
+  pub promised : new.promised + length (holding_at old.parts who).appends ≡ old.promised
+  pub room : old.store.spare ≤ new.store.spare + length (holding_at old.parts who).appends
+  pub waiting : new.waiting + length front ≡ old.waiting

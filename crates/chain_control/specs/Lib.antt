@@ -1,0 +1,8 @@
+pub mod Requests
+pub mod Links
+pub mod Chains
+pub mod Tables
+pub mod Holdings
+pub mod Changes
+pub mod Kept
+pub mod Standing

@@ -1,0 +1,337 @@
+//! A partition under multiversion ordering: its rows, the versions of them, the accesses, and what each attempt has there.
+ghost use Rattle.std.specs.Prelude.{◌≡◌, [], ◌≤◌, ◌<◌, ◌^◌, ◌+◌, ◌++◌, true, map, option_map, None, Some, IfOk, IfErr, IsOk, OnOk, OnErr, length};
+ghost use Rattle.deneva_base.specs.Lists.{IsIn, greatest_by};
+ghost use Rattle.deneva_base.specs.declared.keys.Key.{Key};
+ghost use Rattle.deneva_base.specs.declared.rows.Keyed.{Keyed};
+ghost use Rattle.deneva_base.specs.declared.answers.Answer.TheVariants.{Granted, Waits};
+ghost use Rattle.deneva_base.specs.declared.answers.Vote.TheVariants.{Yes};
+ghost use Rattle.deneva_base.specs.Latest.{row_for};
+ghost use Rattle.row_store.specs.Stores.{version_at, has};
+ghost use Rattle.chain_control.specs.Tables.{chain_at, below_in, stamp_in, goers_over, no_one};
+ghost use Rattle.chain_control.specs.Holdings.{holding_at};
+ghost use Rattle.chain_control.specs.Changes.{read_in, read_of, read_after, comes_after, waiting, IsFresh, Opens, Stays, Grants, Waiting, MayNote, Promises, MayReserve, Ends, offered, wake_for};
+
+use crate::lines::{Lines, find_row};
+use crate::links::Link;
+use crate::parts::{Part, Parts};
+use crate::requests::{Request, Waiter};
+use control_core::PrepareNoMemory;
+use deneva_base::{
+    Answer, Attempt, Key, Keyed, Mode, NoMemory, Number, Row, RowList, TxnId, Vote, Wake, Woken,
+};
+use row_store::Store;
+
+/// The rows, what is kept of each key, and the attempts, with the number of appended rows for which there is room in the
+/// store, and the number of requests that wait.
+#[derive(Drop)]
+pub(crate) struct Table {
+    pub store: Store,
+    pub lines: Lines,
+    pub parts: Parts,
+    pub promised: usize,
+    pub waiting: usize,
+}
+
+/// The row of a version with its number, or no cells.
+fn copy_link(store: &Store, link: Option<&Link>) -> Result<(Row, Number), NoMemory>
+    ensures { IfOk result (λ r. r ≡ read_of (option_map (λ l. l.now) link.entry)) }
+{
+    let alloc = store.allocator();
+    match link {
+        Some(link) => Ok((link.row.copy(alloc)?, link.number)),
+        None => {
+            let number = Number { n: 0, id: TxnId(0) };
+            Ok((Row::new(alloc), number))
+        }
+    }
+}
+
+impl Table {
+    pub fn new(store: Store) -> Table
+        ensures { IsFresh store result }
+    {
+        let alloc = store.allocator();
+        Table {
+            store,
+            lines: Lines::new(alloc),
+            parts: Parts::new(alloc),
+            promised: 0,
+            waiting: 0,
+        }
+    }
+
+    /// Makes sure that the versions of a key are kept.
+    pub fn open(&mut self, key: Key) -> Result<(), NoMemory>
+        ensures ok { OnOk result (Opens key self.old self.new) }
+        ensures err { OnErr result (Stays self.old self.new) }
+    {
+        match self.store.version(key) {
+            Some(version) => self.lines.open(key, version),
+            None => Ok(()),
+        }
+    }
+
+    /// What an access is granted: the version below its stamp, and no cells for a Put.
+    fn read(&self, key: Key, stamp: u64, mode: Mode) -> Result<(Row, Number), NoMemory>
+        ensures { IfOk result (λ r. r ≡ read_in mode (below_in stamp (chain_at self.now.lines key))) }
+    {
+        if mode.is_reading() {
+            copy_link(&self.store, self.lines.below(key, stamp))
+        } else {
+            copy_link(&self.store, None)
+        }
+    }
+
+    /// Grants an access.
+    pub fn grant(&mut self, key: Key, asked: Request) -> Result<Answer, NoMemory>
+        ensures answer { IfOk result (λ a. a ≡ Granted (read_in asked.mode (below_in asked.stamp (chain_at self.old.lines key))).0 (read_in asked.mode (below_in asked.stamp (chain_at self.old.lines key))).1 0) }
+        ensures ok { OnOk result (Grants key (read_in asked.mode (below_in asked.stamp (chain_at self.old.lines key))).1 asked self.old self.new) }
+        ensures err { OnErr result (MayNote asked.who key self.old self.new) }
+    {
+        let (row, version) = self.read(key, asked.stamp, asked.mode)?;
+        self.parts.note(asked.who, key)?;
+        self.lines.grant(key, version, asked)?;
+        Ok(Answer::Granted {
+            row,
+            version,
+            bound: 0,
+        })
+    }
+
+    /// The number of the version below the stamp.
+    fn version_below(&self, key: Key, stamp: u64) -> Number
+        ensures { result ≡ (read_of (below_in stamp (chain_at self.now.lines key))).1 }
+    {
+        match self.lines.below(key, stamp) {
+            Some(link) => link.number,
+            None => Number { n: 0, id: TxnId(0) },
+        }
+    }
+
+    /// Lets an access wait.
+    pub fn wait(&mut self, key: Key, asked: Request) -> Result<Answer, NoMemory>
+        requires few { self.old.waiting < 2 ^ 63 }
+        ensures answer { IfOk result (λ a. a ≡ Waits) }
+        ensures ok { OnOk result (Waiting key (waiting asked (below_in asked.stamp (chain_at self.old.lines key))) self.old self.new) }
+        ensures err { OnErr result (MayNote asked.who key self.old self.new) }
+    {
+        let asked = Request {
+            waits: Some(self.version_below(key, asked.stamp)),
+            ..asked
+        };
+        self.parts.note(asked.who, key)?;
+        self.lines.add(key, asked)?;
+        self.waiting += 1;
+        Ok(Answer::Waits)
+    }
+
+    /// The stamp of an attempt.
+    fn stamp(&self, who: Attempt) -> u64
+        ensures { result ≡ greatest_by (λ key. stamp_in who (chain_at self.now.lines key)) (holding_at self.now.parts who).keys }
+    {
+        match self.parts.get(who) {
+            Some(part) => self.lines.stamp_over(&part.keys, who),
+            None => 0,
+        }
+    }
+
+    /// Votes, and takes the memory for the rows.
+    pub fn prepare(
+        &mut self,
+        who: Attempt,
+        writes: RowList,
+        appends: RowList,
+    ) -> Result<Vote, PrepareNoMemory>
+        ensures vote { IfOk result (λ v. v ≡ Yes (greatest_by (λ key. stamp_in who (chain_at self.old.lines key)) (holding_at self.old.parts who).keys) (greatest_by (λ key. stamp_in who (chain_at self.old.lines key)) (holding_at self.old.parts who).keys)) }
+        ensures ok { OnOk result (Promises who writes appends self.old self.new) }
+        ensures err { OnErr result (MayReserve self.old self.new) }
+        ensures returned { IfErr result (λ e. (e.writes ≡ writes) × (e.appends ≡ appends)) }
+    {
+        let stamp = self.stamp(who);
+        let Some(promised) = self.promised.checked_add(appends.len()) else {
+            return Err(PrepareNoMemory { writes, appends });
+        };
+        let Ok(versions) = writes.copy(self.store.allocator()) else {
+            return Err(PrepareNoMemory { writes, appends });
+        };
+        if self.store.reserve(promised).is_err() {
+            return Err(PrepareNoMemory { writes, appends });
+        }
+        self.parts.promise(who, writes, versions, appends)?;
+        self.promised = promised;
+        Ok(Vote::Yes {
+            lo: stamp,
+            hi: stamp,
+        })
+    }
+
+    /// The requests that wait and are to be granted when an attempt ends, which commits where it has a number.
+    fn front(&self, ended: Attempt, number: Option<Number>) -> Result<Vec<Waiter>, NoMemory>
+        ensures { IfOk result (λ front. front.items ≡ goers_over ended number (holding_at self.now.parts ended).writes self.now.lines (holding_at self.now.parts ended).keys) }
+    {
+        match self.parts.get(ended) {
+            Some(part) => self
+                .lines
+                .front(&part.keys, ended, number, part.writes.as_slice()),
+            None => Ok(Vec::new(self.store.allocator())),
+        }
+    }
+
+    /// Whether there is none.
+    fn is_idle(&self, ended: Attempt, number: Option<Number>) -> bool
+        ensures { result ≡ no_one (goers_over ended number (holding_at self.now.parts ended).writes self.now.lines (holding_at self.now.parts ended).keys) }
+    {
+        match self.parts.get(ended) {
+            Some(part) => self
+                .lines
+                .is_idle(&part.keys, ended, number, part.writes.as_slice()),
+            None => true,
+        }
+    }
+
+    /// Whether the number is above that of the version below the stamp.
+    fn comes_after(&self, key: Key, stamp: u64, number: Number) -> bool
+        ensures { result ≡ comes_after number stamp (below_in stamp (chain_at self.now.lines key)) }
+    {
+        match self.lines.below(key, stamp) {
+            Some(link) => number.n < stamp && link.number < number,
+            None => number.n < stamp,
+        }
+    }
+
+    /// The version below a stamp after these rows are written under a number, if there is one.
+    fn read_after(
+        &self,
+        key: Key,
+        stamp: u64,
+        number: Option<Number>,
+        rows: &[Keyed],
+    ) -> Result<(Row, Number), NoMemory>
+        ensures { IfOk result (λ r. r ≡ read_after number (row_for key rows.now) stamp (below_in stamp (chain_at self.now.lines key))) }
+    {
+        match (number, find_row(rows, key)) {
+            (Some(number), Some(row)) if self.comes_after(key, stamp, number) => {
+                Ok((row.copy(self.store.allocator())?, number))
+            }
+            _ => copy_link(&self.store, self.lines.below(key, stamp)),
+        }
+    }
+
+    /// The wakes of these requests, granted after an attempt ends that writes these rows where it has a number.
+    fn wakes_of(
+        &self,
+        front: &[Waiter],
+        number: Option<Number>,
+        rows: &[Keyed],
+    ) -> Result<Woken, NoMemory>
+        ensures { IfOk result (λ wakes. wakes ≡ map (wake_for self.now.lines number rows.now) front.now) }
+    {
+        let mut wakes = Woken::new(self.store.allocator());
+        for waiter in front {
+            let (row, version) = self.read_after(waiter.key, waiter.stamp, number, rows)?;
+            wakes.push(Wake {
+                who: waiter.who,
+                key: waiter.key,
+                row,
+                version,
+                bound: 0,
+            })?;
+        }
+        Ok(wakes)
+    }
+
+    /// The wakes of these requests, when an attempt ends, which commits where it has a number.
+    fn wakes(
+        &self,
+        front: &[Waiter],
+        ended: Attempt,
+        number: Option<Number>,
+    ) -> Result<Woken, NoMemory>
+        ensures { IfOk result (λ wakes. wakes ≡ map (wake_for self.now.lines number (holding_at self.now.parts ended).writes) front.now) }
+    {
+        match self.parts.get(ended) {
+            Some(part) => self.wakes_of(front, number, part.writes.as_slice()),
+            None => self.wakes_of(front, number, &[]),
+        }
+    }
+
+    /// Ends an attempt, which commits where it has a number, and grants who waited for it: their wakes are put at the end
+    /// of `woken`. Where there is none, this takes no memory. Of a key, the `keep` greatest versions are kept, or all
+    /// for 0, and those that a waiter is to read.
+    pub fn end_and_wake(
+        &mut self,
+        keep: usize,
+        who: Attempt,
+        number: Option<Number>,
+        woken: &mut Woken,
+    ) -> Result<(), NoMemory>
+        requires present { (w : Keyed) → IsIn w (holding_at self.old.parts who).writes → has self.old.store w.key ≡ true }
+        requires promised { length (holding_at self.old.parts who).appends ≤ self.old.promised }
+        requires room { self.old.promised ≤ self.old.store.spare }
+        requires few { length (goers_over who number (holding_at self.old.parts who).writes self.old.lines (holding_at self.old.parts who).keys) ≤ self.old.waiting }
+        ensures woken { OnOk result (woken.new ≡ woken.old ++ map (wake_for self.old.lines number (holding_at self.old.parts who).writes) (goers_over who number (holding_at self.old.parts who).writes self.old.lines (holding_at self.old.parts who).keys)) }
+        ensures ok { OnOk result (Ends keep who number (goers_over who number (holding_at self.old.parts who).writes self.old.lines (holding_at self.old.parts who).keys) self.old self.new) }
+        ensures err { OnErr result (self.new ≡ self.old) }
+        ensures same_woken { OnErr result (woken.new ≡ woken.old) }
+        ensures idle { goers_over who number (holding_at self.old.parts who).writes self.old.lines (holding_at self.old.parts who).keys ≡ [] → IsOk result }
+    {
+        if self.is_idle(who, number) {
+            self.end(keep, who, number, &[]);
+            return Ok(());
+        }
+        let front = self.front(who, number)?;
+        let wakes = self.wakes(&front, who, number)?;
+        woken.append(wakes)?;
+        self.end(keep, who, number, &front);
+        Ok(())
+    }
+
+    /// Ends an attempt, which commits where it has a number: its rows are written, its requests are taken out, those that
+    /// waited for it are granted, and versions that are no longer kept are dropped.
+    fn end(&mut self, keep: usize, who: Attempt, number: Option<Number>, front: &[Waiter])
+        requires present { (w : Keyed) → IsIn w (holding_at self.old.parts who).writes → has self.old.store w.key ≡ true }
+        requires promised { length (holding_at self.old.parts who).appends ≤ self.old.promised }
+        requires room { self.old.promised ≤ self.old.store.spare }
+        requires few { length front.now ≤ self.old.waiting }
+        ensures { Ends keep who number front.now self.old self.new }
+    {
+        let Part {
+            keys,
+            writes,
+            versions,
+            appends,
+        } = self.parts.take(who);
+        self.promised -= appends.len();
+        self.waiting -= front.len();
+        if let Some(number) = number {
+            write_rows(&mut self.store, number, writes);
+            append_rows(&mut self.store, number, appends);
+            self.lines.commit_all(keep, who, number, versions);
+        }
+        self.lines.end_all(&keys, who);
+        self.lines.wake_all(front);
+        self.lines.trim_all(&keys);
+    }
+}
+
+/// Writes rows whose keys are present.
+fn write_rows(store: &mut Store, number: Number, rows: RowList)
+    requires present { (w : Keyed) → IsIn w rows → has store.old w.key ≡ true }
+    ensures versions { (key : Key) → version_at store.new key ≡ offered number rows key (version_at store.old key) }
+    ensures spare { store.new.spare ≡ store.old.spare }
+{
+    for Keyed { key, row } in rows.into_vec() {
+        store.put_at(key, number, row);
+    }
+}
+
+/// Appends rows, for which there is room.
+fn append_rows(store: &mut Store, number: Number, rows: RowList)
+    requires room { length rows ≤ store.old.spare }
+    ensures versions { (key : Key) → version_at store.new key ≡ offered number rows key (version_at store.old key) }
+    ensures spare { store.old.spare ≤ store.new.spare + length rows }
+{
+    for Keyed { key, row } in rows.into_vec() {
+        store.append(key, number, row);
+    }
+}
