@@ -38,7 +38,7 @@ PYTHON
 python3 "$top/bench/ycsb.py" 100000 10 30 10000 16 50 >"$work/whole.csv"
 python3 "$top/bench/ycsb.py" 100000 10 30 5000 16 50 >"$work/half.csv"
 python3 "$top/bench/ycsb.py" 64 1 8 10000 8 90 >"$work/hot.csv"
-for protocol in nowait waitdie; do
+for protocol in nowait waitdie timestamp mvcc maat; do
     for order in fifo lifo seed:5; do
         measure "10,000 transactions" "$work/whole.csv" --protocol "$protocol" --partitions 16 --order "$order"
         measure "5,000 transactions" "$work/half.csv" --protocol "$protocol" --partitions 16 --order "$order"

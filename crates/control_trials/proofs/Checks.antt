@@ -1,5 +1,5 @@
 -- Tests that tell that each call of a list meets its conditions.
-use Rattle.std.proofs.Common.{◌≡◌, ◌≢◌, ℕ, ℤ, ◌^◌, List, [], ◌∷◌, length, Bool, true, false, not, ltb, leb, eqb, ◌&&◌, refl, sym, ap, ◌∙◌, subst, ⊎_elim, true≢false, arith, Option, Some, None}
+use Rattle.std.proofs.Common.{◌≡◌, ◌≢◌, ℕ, ◌^◌, List, [], ◌∷◌, length, Bool, true, false, not, ltb, leb, eqb, ◌&&◌, refl, sym, ap, ◌∙◌, subst, ⊎_elim, true≢false, arith, Option, Some, None}
 use Rattle.std.proofs.lemmas.Bool.{ltb-true, leb-true, eqb-true, eq-eqb, not-true, ne_eqb, false_from_ne_true}
 use Rattle.std.specs.Prelude.{is_some}
 use Rattle.std.specs.List.{list_any}
@@ -30,7 +30,7 @@ truths : (ts : List Bool) → all_true ts ≡ true → Truths ts
 truths [] e = tt
 truths (t ∷ ts) e = let p = and_parts t (all_true ts) e in (p.0, truths ts p.1)
 
-there : (o : Option Row) → is_some o ≡ true → (row : Row) × (o ≡ Some row)
+pub there : (o : Option Row) → is_some o ≡ true → (row : Row) × (o ≡ Some row)
 there None e = absurd (true≢false (sym e))
 there (Some row) e = (row, refl)
 
@@ -156,7 +156,7 @@ may_prepare h who bound t = record {
   tables = λ w i. absurd i;
 }
 
-may_write : (h : History) (who : Attempt) (bound a : ℕ) (cell : ℤ) → Truths (write_tests h who bound (trial_key a)) → MayPrepare h who (bound_of bound) (trial_row a cell ∷ []) []
+may_write : (h : History) (who : Attempt) (bound a cell : ℕ) → Truths (write_tests h who bound (trial_key a)) → MayPrepare h who (bound_of bound) (trial_row a cell ∷ []) []
 may_write h who bound a cell t =
     let p = may_prepare h who bound t.1 in
     record {

@@ -1,5 +1,5 @@
 -- Lists of calls, each of which meets its conditions where all before it were answered by a rule.
-use Rattle.std.specs.Prelude.{◌≡◌, ⊤, ℕ, ℤ, List, [], ◌∷◌, Bool, true, ◌==◌, ◌&&◌, ltb, is_some}
+use Rattle.std.specs.Prelude.{◌≡◌, ⊤, ℕ, pos, List, [], ◌∷◌, Bool, true, ◌==◌, ◌&&◌, ltb, is_some}
 use Rattle.deneva_base.specs.declared.keys.Key.{Key}
 use Rattle.deneva_base.specs.declared.numbers.Number.{Number}
 use Rattle.deneva_base.specs.declared.numbers.Attempt.{Attempt}
@@ -21,8 +21,8 @@ abbrev pub trial_key : ℕ → Key
 trial_key a = record { table = 0; a = a; b = 0; c = 0 }
 
 -- a row of one number
-abbrev pub trial_row : ℕ → ℤ → Keyed
-trial_row a cell = record { key = trial_key a; row = Num cell ∷ [] }
+abbrev pub trial_row : ℕ → ℕ → Keyed
+trial_row a cell = record { key = trial_key a; row = Num (pos cell) ∷ [] }
 
 abbrev pub bound_of : ℕ → Bound
 bound_of n = record { n = n; key = trial_key 0 }
@@ -48,6 +48,11 @@ answered rule h (Prepare txn turn bound) = voted rule h txn turn bound []
 answered rule h (Write txn turn bound a cell) = voted rule h txn turn bound (trial_row a cell ∷ [])
 answered rule h (Commit txn turn n) = Committed (attempt_of txn turn) (number_of (attempt_of txn turn) n) (rule.commit h (attempt_of txn turn) (number_of (attempt_of txn turn) n)) ∷ h
 answered rule h (Abort txn turn) = Aborted (attempt_of txn turn) (rule.abort h (attempt_of txn turn)) ∷ h
+
+-- the history after these calls, each answered by the rule
+unfoldable pub all_answered : Rule → History → List Step → History
+all_answered rule h [] = h
+all_answered rule h (s ∷ ss) = all_answered rule (answered rule h s) ss
 
 unfoldable pub Allowed : Rows → Rule → History → List Step → Type 0
 Allowed loaded rule h [] = ⊤

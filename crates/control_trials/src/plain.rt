@@ -15,7 +15,7 @@ struct Asked {
     key: Key,
     mode: Mode,
     waits: bool,
-    written: Option<i64>,
+    written: Option<u32>,
     ended: Option<u64>,
 }
 
@@ -167,7 +167,7 @@ impl Plain {
             if let Some(written) = access.written {
                 if number.n > 0 && access.key == key && number > version {
                     version = number;
-                    cell = written;
+                    cell = i64::from(written);
                 }
             }
         }
@@ -193,7 +193,7 @@ impl Plain {
     }
 
     /// Notes that the attempt is to commit a row of this cell for the key.
-    fn write(&mut self, who: Attempt, key: Key, cell: i64) {
+    fn write(&mut self, who: Attempt, key: Key, cell: u32) {
         for place in 0..self.accesses.len() {
             let access = self.accesses[place];
             if access.who == who && access.key == key {

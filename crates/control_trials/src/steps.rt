@@ -3,7 +3,7 @@ ghost use Rattle.std.specs.Prelude.{◌≡◌, [], ◌∷◌, IfOk, OnOk};
 ghost use Rattle.deneva_base.specs.Conditions.{MayPrepare};
 ghost use Rattle.deneva_base.specs.History.{History};
 ghost use Rattle.deneva_base.specs.Rows.{Rows};
-ghost use Rattle.control_trials.specs.Trials.{attempt_of, trial_key, trial_row, bound_of, MayStep, Allowed, answered, voted};
+ghost use Rattle.control_trials.specs.Trials.{attempt_of, trial_key, trial_row, bound_of, MayStep, Allowed, answered, all_answered, voted};
 
 use control_core::Control;
 use deneva_base::{
@@ -20,7 +20,7 @@ pub(crate) enum Step {
     /// With this bound.
     Prepare(u32, u8, u64),
     /// Prepares with this bound and a row of one cell, for the key of this number.
-    Write(u32, u8, u64, u32, i64),
+    Write(u32, u8, u64, u32, u32),
     /// Under the number of this `n`.
     Commit(u32, u8, u64),
     Abort(u32, u8),
@@ -56,11 +56,11 @@ pub(crate) fn key(a: u32) -> Key
 }
 
 /// A row of one cell, for the key of this number.
-fn written(alloc: Global, a: u32, cell: i64) -> Result<RowList, NoMemory>
+fn written(alloc: Global, a: u32, cell: u32) -> Result<RowList, NoMemory>
     ensures { IfOk result (λ rows. rows ≡ trial_row a cell ∷ []) }
 {
     let mut cells = CellList::new(alloc);
-    cells.push(Cell::Num(cell))?;
+    cells.push(Cell::Num(i64::from(cell)))?;
     let row = Row::of(alloc, cells)?;
     let mut rows = RowList::new(alloc);
     rows.push(Keyed { key: key(a), row })?;
@@ -73,6 +73,23 @@ fn bound(n: u64) -> Bound
     Bound { n, key: key(0) }
 }
 
+/// Puts what a control says to these calls, one after another, at the end of `all`.
+fn say_all<C: Control>(
+    alloc: Global,
+    control: &mut C,
+    steps: &[Step],
+    all: &mut Vec<Said>,
+) -> Result<(), NoMemory>
+    requires allowed { (loaded : Rows) × (h : History) × C.stands control.old loaded h × Allowed loaded (C.rule loaded) h steps.now }
+    ensures { OnOk result ((loaded : Rows) (h : History) → C.stands control.old loaded h → Allowed loaded (C.rule loaded) h steps.now → C.stands control.new loaded (all_answered (C.rule loaded) h steps.now)) }
+{
+    let [step, later @ ..] = steps else {
+        return Ok(());
+    };
+    all.push(said_once(alloc, control, *step)?)?;
+    say_all(alloc, control, later, all)
+}
+
 /// What a control says to these calls, one after another.
 pub(crate) fn said_to<C: Control>(
     alloc: Global,
@@ -80,11 +97,10 @@ pub(crate) fn said_to<C: Control>(
     steps: &[Step],
 ) -> Result<Vec<Said>, NoMemory>
     requires allowed { (loaded : Rows) × (h : History) × C.stands control.old loaded h × Allowed loaded (C.rule loaded) h steps.now }
+    ensures { OnOk result ((loaded : Rows) (h : History) → C.stands control.old loaded h → Allowed loaded (C.rule loaded) h steps.now → C.stands control.new loaded (all_answered (C.rule loaded) h steps.now)) }
 {
     let mut all = Vec::new(alloc);
-    for step in steps {
-        all.push(said_once(alloc, control, *step)?)?;
-    }
+    say_all(alloc, control, steps, &mut all)?;
     Ok(all)
 }
 

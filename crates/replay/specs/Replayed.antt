@@ -2,7 +2,7 @@
 use Rattle.std.specs.Prelude.{◌≡◌, Bool, true, false, reverse}
 use Rattle.deneva_base.specs.declared.config.Config.{Config}
 use Rattle.deneva_base.specs.declared.config.Protocol.{Protocol}
-use Rattle.deneva_base.specs.declared.config.Protocol.TheVariants.{NoWait, WaitDie, Timestamp, Maat}
+use Rattle.deneva_base.specs.declared.config.Protocol.TheVariants.{Calvin}
 use Rattle.txn_program.specs.declared.programs.Workload.{Workload}
 use Rattle.server_core.specs.Atomic.{IsAtomic}
 use Rattle.server_core.specs.IsSerial.{IsSerial}
@@ -15,11 +15,8 @@ use Rattle.replay.specs.declared.runs.Ran.{Ran}
 
 -- there are nodes for the protocol
 abbrev pub is_built : Protocol → Bool
-is_built NoWait = true
-is_built WaitDie = true
-is_built Timestamp = true
-is_built Maat = true
-is_built p = false
+is_built Calvin = false
+is_built p = true
 
 -- the run that the schedule picks, which has nothing in flight after it, and its outcome: its decided transactions,
 -- executed one at a time in the order of their numbers, give each its reads and the last rows; each transaction is decided

@@ -5,6 +5,7 @@ ghost use Rattle.txn_program.specs.Valid.{IsValid};
 ghost use Rattle.replay.specs.Replayed as spec;
 ghost use Rattle.replay.specs.Replayed.{Replays};
 
+use chain_control::Chains;
 use deneva_base::{Config, NoMemory, Protocol};
 use lock_control::Locks;
 use node_core::Node;
@@ -27,10 +28,7 @@ pub struct Ran {
 pub fn is_built(protocol: Protocol) -> bool
     ensures { result ≡ spec.is_built protocol }
 {
-    matches!(
-        protocol,
-        Protocol::NoWait | Protocol::WaitDie | Protocol::Timestamp | Protocol::Maat
-    )
+    !matches!(protocol, Protocol::Calvin)
 }
 
 /// The run of these nodes that a schedule picks.
@@ -70,7 +68,8 @@ pub fn replay(
         Protocol::NoWait => run_in::<Node<Locks<0>>>(alloc, config, work, schedule),
         Protocol::WaitDie => run_in::<Node<Locks<1>>>(alloc, config, work, schedule),
         Protocol::Timestamp => run_in::<Node<Stamps>>(alloc, config, work, schedule),
+        Protocol::Mvcc => run_in::<Node<Chains<4>>>(alloc, config, work, schedule),
         Protocol::Maat => run_in::<Node<Ranges<4096>>>(alloc, config, work, schedule),
-        Protocol::Mvcc | Protocol::Calvin => unreachable!(),
+        Protocol::Calvin => unreachable!(),
     }
 }

@@ -1,5 +1,7 @@
 //! What is kept of each key besides its latest row.
-ghost use Rattle.std.specs.Prelude.{◌≡◌, ◌≢◌, ◌≤◌, [], option_map, OnOk};
+ghost use Rattle.std.specs.Prelude.{◌≡◌, ◌≢◌, ◌≤◌, [], true, option_map, OnOk};
+ghost use Rattle.deneva_base.specs.Lists.{IsIn};
+ghost use Rattle.row_store.specs.declared.versions.Version.{Version};
 ghost use Rattle.deneva_base.specs.declared.keys.Key.{Key};
 ghost use Rattle.stamp_lines.specs.Tables.{requests_at};
 ghost use Rattle.stamp_control.specs.Picks.{newer_than, pick, is_above, is_read, is_needed};
@@ -108,7 +110,8 @@ impl Past {
 
     /// Drops the versions that no waiting request would read.
     fn trim(&mut self, requests: &[Request])
-        ensures { Trims requests.now (past_of self.old) (past_of self.new) }
+        ensures needed { (v : Version) → IsIn v self.new.kept.items → is_needed requests.now self.new.kept.items v.number ≡ true }
+        ensures rest { Trims requests.now (past_of self.old) (past_of self.new) }
     {
         let mut place = 0;
         while place < self.kept.len() {

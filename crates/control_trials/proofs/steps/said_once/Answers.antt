@@ -9,8 +9,8 @@ use Rattle.control_trials.specs.declared.steps.Step.{Step}
 use Rattle.control_trials.specs.Trials.{attempt_of, bound_of, MayStep, answered, voted}
 use Rattle.control_trials.proofs.steps.said_once.Goals as goal
 
-pub returns-in-Write : goal.returns-in-Write
-returns-in-Write g c =
+pub returns-in_ok-writes-in-Write : goal.returns-in_ok-writes-in-Write
+returns-in_ok-writes-in-Write g c =
     let new = c.said_to_vote-in-Write.new.control in
     subst (λ (s : Step). OnOk c.said_to_vote-in-Write.result ((loaded : Rows) (h : History) → g.C.Control.stands c.args.control.now loaded h → MayStep loaded h s → g.C.Control.stands new loaded (answered (g.C.Control.rule loaded) h s))) (sym c.in-Write.is)
     (on_ok_weaker c.said_to_vote-in-Write.result

@@ -1,4 +1,4 @@
-use Rattle.std.proofs.Common.{List, [], ◌∷◌, refl, pos}
+use Rattle.std.proofs.Common.{List, [], ◌∷◌, refl}
 use Rattle.deneva_base.specs.declared.keys.Mode.TheVariants.{Read, Update, Put}
 use Rattle.deneva_base.specs.Timestamp.{timestamp}
 use Rattle.row_store.specs.Stores.{row_in}
@@ -9,7 +9,7 @@ use Rattle.control_trials.proofs.tests.a_put_goes_past_a_smaller_update.Goals as
 
 -- each call meets its conditions
 abbrev steps : List Step
-steps = Ask 1 1 1 0 Update ∷ Ask 2 1 3 0 Put ∷ Ask 3 1 2 0 Read ∷ Write 2 1 0 0 (pos 7) ∷ Commit 2 1 3 ∷ Write 1 1 0 0 (pos 6) ∷ Commit 1 1 1 ∷ []
+steps = Ask 1 1 1 0 Update ∷ Ask 2 1 3 0 Put ∷ Ask 3 1 2 0 Read ∷ Write 2 1 0 0 7 ∷ Commit 2 1 3 ∷ Write 1 1 0 0 6 ∷ Commit 1 1 1 ∷ []
 
 pub said_to-requires-clause-allowed : goal.said_to-requires-clause-allowed
 said_to-requires-clause-allowed g c κs =

@@ -1,4 +1,4 @@
-use Rattle.std.proofs.Common.{List, [], ◌∷◌, refl, pos}
+use Rattle.std.proofs.Common.{List, [], ◌∷◌, refl}
 use Rattle.deneva_base.specs.declared.keys.Mode.TheVariants.{Read, Update}
 use Rattle.deneva_base.specs.Maat.{maat}
 use Rattle.row_store.specs.Stores.{row_in}
@@ -9,7 +9,7 @@ use Rattle.control_trials.proofs.tests.a_window_without_numbers_is_refused.Goals
 
 -- each call meets its conditions
 abbrev steps : List Step
-steps = Ask 1 1 1 0 Read ∷ Ask 2 1 2 0 Update ∷ Write 2 1 1 0 (pos 7) ∷ Commit 2 1 1 ∷ Prepare 1 1 1 ∷ []
+steps = Ask 1 1 1 0 Read ∷ Ask 2 1 2 0 Update ∷ Write 2 1 1 0 7 ∷ Commit 2 1 1 ∷ Prepare 1 1 1 ∷ []
 
 pub said_to-requires-clause-allowed : goal.said_to-requires-clause-allowed
 said_to-requires-clause-allowed g c κs =

@@ -1,4 +1,4 @@
-use Rattle.std.proofs.Common.{List, [], ◌∷◌, refl, pos}
+use Rattle.std.proofs.Common.{List, [], ◌∷◌, refl}
 use Rattle.deneva_base.specs.declared.keys.Mode.TheVariants.{Read, Update, Put}
 use Rattle.deneva_base.specs.NoWait.{no_wait}
 use Rattle.row_store.specs.Stores.{row_in}
@@ -9,7 +9,7 @@ use Rattle.control_trials.proofs.tests.no_wait_on_calls_1.Goals as goal
 
 -- each call meets its conditions
 abbrev steps : List Step
-steps = Ask 1 1 48 0 Update ∷ Ask 4 1 25 1 Put ∷ Write 4 1 0 1 (pos 11) ∷ Commit 4 1 1 ∷ Ask 2 1 57 1 Put ∷ Write 1 1 0 0 (pos 12) ∷ Commit 1 1 2 ∷ Ask 2 1 57 0 Read ∷ Write 2 1 0 1 (pos 13) ∷ Ask 3 1 47 0 Read ∷ Ask 5 1 54 0 Read ∷ Ask 3 1 47 1 Update ∷ Abort 3 1 ∷ Ask 5 1 54 1 Update ∷ Ask 3 2 47 1 Read ∷ Abort 5 1 ∷ []
+steps = Ask 1 1 48 0 Update ∷ Ask 4 1 25 1 Put ∷ Write 4 1 0 1 11 ∷ Commit 4 1 1 ∷ Ask 2 1 57 1 Put ∷ Write 1 1 0 0 12 ∷ Commit 1 1 2 ∷ Ask 2 1 57 0 Read ∷ Write 2 1 0 1 13 ∷ Ask 3 1 47 0 Read ∷ Ask 5 1 54 0 Read ∷ Ask 3 1 47 1 Update ∷ Abort 3 1 ∷ Ask 5 1 54 1 Update ∷ Ask 3 2 47 1 Read ∷ Abort 5 1 ∷ []
 
 pub said_to-requires-clause-allowed : goal.said_to-requires-clause-allowed
 said_to-requires-clause-allowed g c κs =

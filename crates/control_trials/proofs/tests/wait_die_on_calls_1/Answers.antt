@@ -1,4 +1,4 @@
-use Rattle.std.proofs.Common.{List, [], ◌∷◌, refl, pos}
+use Rattle.std.proofs.Common.{List, [], ◌∷◌, refl}
 use Rattle.deneva_base.specs.declared.keys.Mode.TheVariants.{Read, Update, Put}
 use Rattle.deneva_base.specs.WaitDie.{wait_die}
 use Rattle.row_store.specs.Stores.{row_in}
@@ -9,7 +9,7 @@ use Rattle.control_trials.proofs.tests.wait_die_on_calls_1.Goals as goal
 
 -- each call meets its conditions
 abbrev steps : List Step
-steps = Ask 3 1 29 0 Update ∷ Write 3 1 0 0 (pos 16) ∷ Commit 3 1 2 ∷ Ask 4 1 55 0 Update ∷ Ask 2 1 46 0 Read ∷ Ask 4 1 55 1 Update ∷ Ask 5 1 23 1 Update ∷ Ask 1 1 52 1 Put ∷ Write 4 1 0 1 (pos 17) ∷ Commit 4 1 3 ∷ Ask 2 1 46 1 Read ∷ Write 1 1 0 1 (pos 18) ∷ Commit 1 1 5 ∷ Prepare 2 1 0 ∷ Commit 2 1 6 ∷ Ask 5 1 23 0 Read ∷ []
+steps = Ask 3 1 29 0 Update ∷ Write 3 1 0 0 16 ∷ Commit 3 1 2 ∷ Ask 4 1 55 0 Update ∷ Ask 2 1 46 0 Read ∷ Ask 4 1 55 1 Update ∷ Ask 5 1 23 1 Update ∷ Ask 1 1 52 1 Put ∷ Write 4 1 0 1 17 ∷ Commit 4 1 3 ∷ Ask 2 1 46 1 Read ∷ Write 1 1 0 1 18 ∷ Commit 1 1 5 ∷ Prepare 2 1 0 ∷ Commit 2 1 6 ∷ Ask 5 1 23 0 Read ∷ []
 
 pub said_to-requires-clause-allowed : goal.said_to-requires-clause-allowed
 said_to-requires-clause-allowed g c κs =
