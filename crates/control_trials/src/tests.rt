@@ -4,7 +4,7 @@ use super::*;
 use chain_control::Chains;
 use control_core::Control;
 use deneva_base::{
-    Answer, Cause, Cell, CellList, Mode, NoMemory, Number, Row, TxnId, Vote, Wake, Woken,
+    Answer, Cause, Cell, CellList, Keyed, Mode, NoMemory, Number, Row, TxnId, Vote, Wake, Woken,
 };
 use lock_control::Locks;
 use range_control::Ranges;
@@ -263,8 +263,9 @@ fn a_put_goes_past_a_smaller_update(rt: HostRuntime) -> Result<(), Fail> {
         said_to(alloc, &mut stamps, &steps)?.as_slice(),
         wanted.as_slice()
     );
+    let row = row_of(alloc, Some(7))?;
     let rows = stamps.rows()?;
-    assert_eq!(rt; rows.get(0).row, row_of(alloc, Some(7))?);
+    assert!(rt; rows.as_slice().contains(&Keyed { key: key(0), row }));
     Ok(())
 }
 
