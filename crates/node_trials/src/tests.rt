@@ -66,7 +66,7 @@ fn prepare(alloc: Global, numbers: &[u32]) -> Result<Msg, NoMemory> {
     })
 }
 
-/// The loaded row 0 is granted.
+/// A grant of the row of key 0, as it was loaded.
 fn loaded(alloc: Global, who: Attempt) -> Result<Msg, NoMemory> {
     let keyed = row(alloc, 0)?;
     Ok(Msg::Granted {
