@@ -1,0 +1,5 @@
+pub mod Places
+pub mod Placing
+pub mod Eights
+pub mod Counts
+pub mod Trying

@@ -1,0 +1,114 @@
+//! The global order.
+ghost use Rattle.std.specs.Prelude.{◌≡◌, ◌≤◌, ◌<◌, ◌/◌, ◌%◌, IfOk, map, length, filter, take, eqb};
+ghost use Rattle.deneva_base.specs.Lists.{IsIn};
+ghost use Rattle.deneva_base.specs.declared.config.Config.{Config};
+ghost use Rattle.txn_program.specs.Serial.{all_ids};
+ghost use Rattle.txn_program.specs.Valid.{IsValid};
+ghost use Rattle.server_core.specs.GlobalOrder as global;
+ghost use Rattle.server_core.specs.GlobalOrder.{numbered};
+ghost use Rattle.server_core.specs.Setting.{setting, home, homes};
+
+use deneva_base::{NoMemory, Number, TxnId};
+use std::alloc::Global;
+use txn_program::{Workload, home};
+
+/// How many transactions of a sequencer make a batch.
+pub(crate) const BATCH: usize = 8;
+
+/// How many of the first `limit` transactions of the file have their home at the node.
+fn count_homes(work: &Workload, parts: u8, part: u8, limit: usize) -> usize
+    requires valid { IsValid work.now }
+    requires parts { 1 ≤ parts }
+    requires limit { limit ≤ length work.now.programs }
+    ensures counted { (c : Config) → c.parts ≡ parts → result ≡ length (filter (λ x. eqb (home (setting c work.now) x) part) (take limit (all_ids work.now))) }
+    ensures few { result ≤ limit }
+{
+    let mut count = 0;
+    for at in 0..limit {
+        if home(&work.load, work.programs.get(at), parts) == part {
+            count += 1;
+        }
+    }
+    count
+}
+
+/// The number of epochs: as many as the sequencer with the most transactions has batches.
+pub fn epochs(work: &Workload, parts: u8) -> u32
+    requires parts { 1 ≤ parts }
+    requires valid { IsValid work.now }
+    ensures { (c : Config) → c.parts ≡ parts → result ≡ global.epochs (setting c work.now) }
+{
+    let mut most = 0;
+    for part in 0..parts {
+        let homes = count_homes(work, parts, part, work.programs.len());
+        most = most.max(homes.div_ceil(BATCH));
+    }
+    most as u32
+}
+
+/// The number of the transaction that is at this index, counted from 0, of the home transactions of a sequencer: with N
+/// sequencers, the one at index `i` of epoch `e` of sequencer `s` has (e N + s) 8 + i + 1.
+fn number_at(parts: u8, seq: u8, index: usize) -> u64
+    requires small { index < 10000 }
+    ensures { result ≡ numbered parts (index / 8) seq (index % 8) }
+{
+    let batch = (index / BATCH) as u64 * u64::from(parts) + u64::from(seq);
+    batch * BATCH as u64 + (index % BATCH) as u64 + 1
+}
+
+/// The number of a transaction in the global order. It takes no memory, and time by the transactions before it.
+pub fn calvin_number(work: &Workload, parts: u8, id: TxnId) -> Number
+    requires parts { 1 ≤ parts }
+    requires valid { IsValid work.now }
+    requires id { IsIn id (all_ids work.now) }
+    ensures { (c : Config) → c.parts ≡ parts → result ≡ global.number (setting c work.now) id }
+{
+    let at = id.0 as usize - 1;
+    let seq = home(&work.load, work.programs.get(at), parts);
+    let index = count_homes(work, parts, seq, at);
+    Number {
+        n: number_at(parts, seq, index),
+        id,
+    }
+}
+
+/// The numbers of all transactions in the global order, in file order. They take one pass.
+pub fn numbers_of(alloc: Global, work: &Workload, parts: u8) -> Result<Vec<Number>, NoMemory>
+    requires parts { 1 ≤ parts }
+    requires valid { IsValid work.now }
+    ensures { IfOk result (λ numbers. (c : Config) → c.parts ≡ parts → numbers.items ≡ map (global.number (setting c work.now)) (all_ids work.now)) }
+{
+    let mut counts: Vec<usize> = vec![in alloc; 0; usize::from(parts)]?;
+    let mut numbers = Vec::with_capacity(alloc, work.programs.len())?;
+    for at in 0..work.programs.len() {
+        let seq = home(&work.load, work.programs.get(at), parts);
+        let index = counts[usize::from(seq)];
+        counts[usize::from(seq)] += 1;
+        numbers.push(Number {
+            n: number_at(parts, seq, index),
+            id: TxnId(at as u32 + 1),
+        })?;
+    }
+    Ok(numbers)
+}
+
+/// The transactions whose home is the node, in file order.
+pub(crate) fn homes_of(
+    alloc: Global,
+    work: &Workload,
+    parts: u8,
+    part: u8,
+) -> Result<Vec<TxnId>, NoMemory>
+    requires valid { IsValid work.now }
+    requires parts { 1 ≤ parts }
+    ensures { IfOk result (λ v. (c : Config) → c.parts ≡ parts → v.items ≡ homes (setting c work.now) part) }
+{
+    let mut homes = Vec::new(alloc);
+    for at in 0..work.programs.len() {
+        let program = work.programs.get(at);
+        if home(&work.load, program, parts) == part {
+            homes.push(TxnId(at as u32 + 1))?;
+        }
+    }
+    Ok(homes)
+}
