@@ -1,0 +1,17 @@
+pub mod FreedSteps
+pub mod Numbers
+pub mod Versions
+pub mod Asked
+pub mod Slots
+pub mod Batching
+pub mod Coming
+pub mod Finishing
+pub mod After
+pub mod LockSteps
+pub mod ArrivalSteps
+pub mod BatchSteps
+pub mod RowSteps
+pub mod Loads
+pub mod Placing
+pub mod NowRows
+pub mod Nodes

@@ -1,0 +1,31 @@
+use Rattle.std.proofs.Common.{◌≡◌, ℕ, sym, ap, ap₂, ◌∙◌, ◌*◌, refl, map, replicate, Option, None, option_map, List}
+use Rattle.deneva_base.specs.declared.numbers.TxnId.{TxnId}
+use Rattle.row_store.specs.Stores.{loaded}
+use Rattle.txn_program.specs.Serial.{all_ids}
+use Rattle.server_core.specs.CalvinProper.{Valid}
+use Rattle.server_core.specs.Roles.{Role}
+use Rattle.server_core.specs.GlobalOrder.{epochs, number}
+use Rattle.server_core.specs.Setting.{Setting, setting, loaded_at}
+use Rattle.server_core.proofs.CalvinSettings as calvin
+use Rattle.calvin_seq.specs.Places.{role_of, setting_of}
+use Rattle.calvin_sched.proofs.Nodes.{batches_first, locks_first, arrivals_first, versions_first}
+use Rattle.calvin_sched.proofs.node.CalvinNodeServer.begin.Goals as goal
+
+pub returns-clause-stands : goal.returns-clause-stands
+returns-clause-stands c =
+    let a = c.new.result in
+    let s : Setting = setting_of a in
+    let v : Valid s = calvin.valid a.config a.work.now a.valid a.ranges in
+    let same : s ≡ setting c.args.config c.args.work.now = ap₂ setting c.new.ensures.config c.new.ensures.work in
+    let role : role_of a ≡ record { config = c.args.config; work = c.args.work.now; part = c.args.part } = λ i. record { config = c.new.ensures.config i; work = c.new.ensures.work i; part = c.new.ensures.part i } in
+    let count : c.epochs.result * c.from.result ≡ epochs s * a.config.parts = ap₂ (λ (m n : ℕ). m * n) (c.epochs.ensures c.args.config refl ∙ ap epochs (sym same)) (c.from.ensures ∙ ap (λ (r : Role). r.config.parts) (sym role)) in
+    record {
+      ordered = ap (λ (r : Role). r.config.protocol) role ∙ c.requires.protocol;
+      sequencer = c.in_ok-begin.ensures ∙ sym role;
+      fit = tt;
+      numbers = c.in_ok-numbers_of.ensures c.args.config refl ∙ ap (λ (r : Role). map (number (setting r.config r.work)) (all_ids r.work)) (sym role);
+      batches = batches_first s v a.part c.in_ok-begin-2.field-0 (c.in_ok-begin-2.ensures.0 ∙ ap (λ (n : ℕ). replicate {A = Option (List TxnId)} n None) count) c.in_ok-begin-2.ensures.1;
+      locks = locks_first s v a.part c.new-2.result c.new-2.ensures;
+      arrivals = arrivals_first s v a.part c.new-3.result c.new-3.ensures;
+      versions = versions_first s v a.part c.in_ok-store_of.field-0 (λ key. c.in_ok-store_of.ensures key ∙ ap (λ (r : Role). option_map loaded (loaded_at (setting r.config r.work) r.part key)) (sym role));
+    }

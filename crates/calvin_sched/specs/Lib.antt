@@ -1,0 +1,11 @@
+pub mod Queues
+pub mod Tables
+pub mod Batches
+pub mod Arrivals
+pub mod Versions
+pub mod Asked
+pub mod Reading
+pub mod Loading
+pub mod Standing
+pub mod Freed
+pub mod Known

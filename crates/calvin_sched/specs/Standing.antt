@@ -1,0 +1,65 @@
+-- What a node stands for: the messages that it has handled, the newest first.
+use Rattle.std.specs.Prelude.{◌≡◌, ℕ, List, [], ◌∷◌, ◌++◌, map, cond, eqb, Option, Some, None}
+use Rattle.deneva_base.specs.Keys.{id_eq}
+use Rattle.deneva_base.specs.Lists.{IsIn}
+use Rattle.deneva_base.specs.Partitions.{partition_of}
+use Rattle.deneva_base.specs.declared.config.Protocol.TheVariants.{Calvin}
+use Rattle.deneva_base.specs.declared.keys.Key.{Key}
+use Rattle.deneva_base.specs.declared.numbers.TxnId.{TxnId}
+use Rattle.row_store.specs.Stores.{Seen, version_at}
+use Rattle.server_core.specs.ActiveList.{active}
+use Rattle.server_core.specs.CalvinFits.{AllFit}
+use Rattle.server_core.specs.GlobalOrder.{Slot, slots, batch, number}
+use Rattle.server_core.specs.Ordered.{has_batch, is_finished}
+use Rattle.server_core.specs.Setting.{Setting}
+use Rattle.server_core.specs.declared.messages.Msg.TheVariants as msg
+use Rattle.server_core.specs.declared.messages.Msg.{Msg}
+use Rattle.calvin_sched.specs.Arrivals.{arrivals_at}
+use Rattle.calvin_sched.specs.Asked.{asked}
+use Rattle.calvin_sched.specs.Batches.{came, AreTaken}
+use Rattle.calvin_seq.specs.Places.{role_of, setting_of, place_of}
+use Rattle.calvin_sched.specs.Queues.{for_key}
+use Rattle.calvin_sched.specs.Tables.{queue_at}
+use Rattle.calvin_sched.specs.Versions.{version}
+use Rattle.calvin_sched.specs.declared.arrivals.Arrival.{Arrival}
+use Rattle.calvin_sched.specs.declared.arrivals.Arrivals.{Arrivals}
+use Rattle.calvin_sched.specs.declared.batches.Batches.{Batches}
+use Rattle.calvin_sched.specs.declared.locks.LockTable.{LockTable}
+use Rattle.calvin_sched.specs.declared.node.CalvinNode.{CalvinNode}
+
+-- a batch, where it came
+abbrev pub batch_if : Setting → List Msg → Slot → Option (List TxnId)
+batch_if s ms l = cond (has_batch ms l) (Some (batch s l)) None
+
+-- the batches that came are those of the global order
+pub record HasBatches (s : Setting) (b : Batches) (ms : List Msg) : Type 0 where
+  pub came : came b ≡ map (batch_if s ms) (slots s)
+  pub taken : AreTaken b
+
+-- each queue has the requests of the taken, unfinished transactions in the order of their numbers
+abbrev pub HasLocks : Setting → ℕ → LockTable → List Msg → Type 0
+HasLocks s p locks ms = (key : Key) → queue_at locks key ≡ for_key key (asked s p (active s p ms))
+
+-- the Rows of a transaction, in the order in which they came
+abbrev pub came_for : TxnId → List Msg → List Arrival
+came_for x [] = []
+came_for x (msg.Rows y q rows ∷ ms) = cond (id_eq y x) (came_for x ms ++ record { part = q; rows = rows } ∷ []) (came_for x ms)
+came_for x (m ∷ ms) = came_for x ms
+
+-- they are kept until it finishes here
+abbrev pub HasArrivals : Setting → Arrivals → List Msg → Type 0
+HasArrivals s arrivals ms = (x : TxnId) → IsIn x s.ids → arrivals_at arrivals x ≡ cond (is_finished s ms x) [] (came_for x ms)
+
+-- the store has the versions of the keys of p, and of no other
+abbrev pub HasVersions : Setting → ℕ → Seen → List Msg → Type 0
+HasVersions s p store ms = (key : Key) → version_at store key ≡ cond (eqb (partition_of key s.parts) p) (version s p ms key) None
+
+pub record CalvinStands (n : CalvinNode) (ms : List Msg) : Type 0 where
+  pub ordered : n.place.config.protocol ≡ Calvin
+  pub sequencer : role_of (place_of n.sequencer) ≡ role_of n.place
+  pub fit : AllFit (setting_of n.place) n.place.part ms
+  pub numbers : n.numbers.items ≡ map (number (setting_of n.place)) (setting_of n.place).ids
+  pub batches : HasBatches (setting_of n.place) n.batches ms
+  pub locks : HasLocks (setting_of n.place) n.place.part n.locks ms
+  pub arrivals : HasArrivals (setting_of n.place) n.arrivals ms
+  pub versions : HasVersions (setting_of n.place) n.place.part n.store ms

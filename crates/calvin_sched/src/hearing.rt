@@ -1,0 +1,147 @@
+//! What a node says on batches and rows, and what it keeps of them.
+ghost use Rattle.std.specs.Prelude.{◌≡◌, ◌++◌, ◌∷◌, [], List, filter, ◌&&◌, true, None, IfOk, OnOk, OnErr};
+ghost use Rattle.std.specs.List.{flat_map};
+ghost use Rattle.deneva_base.specs.Lists.{IsIn};
+ghost use Rattle.deneva_base.specs.declared.numbers.TxnId as txns;
+ghost use Rattle.row_store.specs.Stores.{row_in};
+ghost use Rattle.txn_program.specs.Serial.{all_ids};
+ghost use Rattle.server_core.specs.Calvin.{says, finished_mail};
+ghost use Rattle.server_core.specs.CalvinFits.{Suits};
+ghost use Rattle.server_core.specs.Ordered.{takes_part};
+ghost use Rattle.server_core.specs.declared.messages.Msg as messages;
+ghost use Rattle.server_core.specs.declared.messages.Msg.TheVariants as msg;
+ghost use Rattle.calvin_sched.specs.Arrivals.{arrivals_at};
+ghost use Rattle.calvin_sched.specs.Asked.{all_free};
+ghost use Rattle.calvin_sched.specs.Freed.{freed_by, put_numbers};
+ghost use Rattle.calvin_sched.specs.Known.{HasNumbers, AreKnown};
+ghost use Rattle.calvin_seq.specs.Places.{setting_of};
+ghost use Rattle.calvin_sched.specs.Reading.{row_after, mails_after, is_complete};
+ghost use Rattle.calvin_sched.specs.Standing.{CalvinStands};
+ghost use Rattle.calvin_sched.specs.Tables.{queue_at};
+
+use crate::node::CalvinNode;
+use crate::rows::put_left;
+use calvin_seq::{put_all, say_all};
+use deneva_base::{Access, IdList, Keyed, NoMemory, RowList, TxnId};
+use server_core::{Mail, MailList, Msg, Outbox};
+
+impl<'w> CalvinNode<'w> {
+    /// Sends the rows of those of these transactions that are ready.
+    fn say_ready(&self, fresh: &[TxnId], out: &mut Outbox) -> Result<(), NoMemory>
+        requires ids { (x : txns.TxnId) → IsIn x fresh.now → IsIn x (all_ids self.now.place.work.now) }
+        ensures ok { OnOk result (out.new.mails ≡ out.old.mails ++ flat_map (mails_after (setting_of self.now.place) self.now.place.part (row_in self.now.store)) (filter (λ x. takes_part (setting_of self.now.place) x self.now.place.part && all_free (setting_of self.now.place) self.now.place.part (queue_at self.now.locks) x None) fresh.now)) }
+        ensures err { OnErr result (out.new.mails ≡ out.old.mails) }
+    {
+        let mut mails = MailList::new(self.place.alloc);
+        for id in &self.ready(fresh)? {
+            self.push_reads(*id, &[], &mut mails)?;
+        }
+        say_all(mails, out)
+    }
+
+    /// Keeps a batch and takes those that are next in the global order: their transactions ask for locks.
+    pub(crate) fn hear_batch(
+        &mut self,
+        epoch: u32,
+        seq: u8,
+        ids: &IdList,
+        out: &mut Outbox,
+    ) -> Result<(), NoMemory>
+        requires fits { (ms : List messages.Msg) × CalvinStands self.old ms × Suits (setting_of self.old.place) self.old.place.part seq (msg.Batch epoch seq ids.now) ms }
+        ensures place { self.new.place ≡ self.old.place }
+        ensures says { OnOk result ((ms : List messages.Msg) → CalvinStands self.old ms → Suits (setting_of self.old.place) self.old.place.part seq (msg.Batch epoch seq ids.now) ms → out.new.mails ≡ out.old.mails ++ says (setting_of self.old.place) self.old.place.part (msg.Batch epoch seq ids.now ∷ ms)) }
+        ensures stands { OnOk result ((ms : List messages.Msg) → CalvinStands self.old ms → Suits (setting_of self.old.place) self.old.place.part seq (msg.Batch epoch seq ids.now) ms → CalvinStands self.new (msg.Batch epoch seq ids.now ∷ ms)) }
+        ensures same_mails { OnErr result (out.new.mails ≡ out.old.mails) }
+        ensures same { OnErr result ((ms : List messages.Msg) → CalvinStands self.old ms → CalvinStands self.new ms) }
+    {
+        let slot = epoch as usize * usize::from(self.place.config.parts) + usize::from(seq);
+        let kept = ids.copy(self.place.alloc)?;
+        let fresh = self.batches.taken_with(slot, ids.as_slice())?;
+        let requests = self.requests_of(&fresh)?;
+        self.locks.ask_all(&requests)?;
+        match self.say_ready(&fresh, out) {
+            Ok(()) => {
+                self.batches.keep(slot, kept);
+                Ok(())
+            }
+            Err(refused) => {
+                self.locks.take_back(&requests);
+                Err(refused)
+            }
+        }
+    }
+
+    /// What is said when a transaction finishes: to its home that it has, and the rows of those that become ready, in the
+    /// order of their numbers.
+    fn last_mails(&self, id: TxnId, here: &[Access], left: &[Keyed]) -> Result<MailList, NoMemory>
+        requires id { IsIn id (all_ids self.now.place.work.now) }
+        requires numbers { HasNumbers self.now.place self.now.numbers.items }
+        requires known { AreKnown self.now.place self.now.locks }
+        ensures { IfOk result (λ mails. mails ≡ finished_mail (setting_of self.now.place) self.now.place.part id ∷ flat_map (λ n. mails_after (setting_of self.now.place) self.now.place.part (row_after (row_in self.now.store) left.now) n.id) (put_numbers [] (freed_by (setting_of self.now.place) self.now.place.part (queue_at self.now.locks) id here.now))) }
+    {
+        let part = self.place.part;
+        let mut mails = MailList::new(self.place.alloc);
+        let number = self.number(id);
+        mails.push(Mail {
+            from: part,
+            to: self.place.home(id),
+            msg: Msg::Finished { id, part, number },
+        })?;
+        for number in &self.freed(id, here)? {
+            self.push_reads(number.id, left, &mut mails)?;
+        }
+        Ok(mails)
+    }
+
+    /// Finishes a transaction here, the last of whose rows came.
+    fn finish(
+        &mut self,
+        id: TxnId,
+        part: u8,
+        rows: &RowList,
+        out: &mut Outbox,
+    ) -> Result<(), NoMemory>
+        requires fits { (ms : List messages.Msg) × CalvinStands self.old ms × Suits (setting_of self.old.place) self.old.place.part part (msg.Rows id part rows.now) ms }
+        requires complete { is_complete (setting_of self.old.place) (arrivals_at self.old.arrivals id) part id ≡ true }
+        ensures place { self.new.place ≡ self.old.place }
+        ensures says { OnOk result ((ms : List messages.Msg) → CalvinStands self.old ms → Suits (setting_of self.old.place) self.old.place.part part (msg.Rows id part rows.now) ms → out.new.mails ≡ out.old.mails ++ says (setting_of self.old.place) self.old.place.part (msg.Rows id part rows.now ∷ ms)) }
+        ensures stands { OnOk result ((ms : List messages.Msg) → CalvinStands self.old ms → Suits (setting_of self.old.place) self.old.place.part part (msg.Rows id part rows.now) ms → CalvinStands self.new (msg.Rows id part rows.now ∷ ms)) }
+        ensures same_mails { OnErr result (out.new.mails ≡ out.old.mails) }
+        ensures same { OnErr result ((ms : List messages.Msg) → CalvinStands self.old ms → CalvinStands self.new ms) }
+    {
+        let number = self.number(id);
+        let here = self.place.accesses_here(id)?;
+        let left = self.left_here(id, part, rows.as_slice())?;
+        let mails = self.last_mails(id, here.as_slice(), left.as_slice())?;
+        self.store.reserve(left.len())?;
+        out.reserve(mails.len())?;
+        self.locks.leave(id, here.as_slice());
+        self.arrivals.forget(id);
+        put_left(&mut self.store, number, left);
+        put_all(mails, out);
+        Ok(())
+    }
+
+    /// Keeps the rows of a participant, or finishes the transaction where they are the last.
+    pub(crate) fn hear_rows(
+        &mut self,
+        id: TxnId,
+        part: u8,
+        rows: &RowList,
+        out: &mut Outbox,
+    ) -> Result<(), NoMemory>
+        requires fits { (ms : List messages.Msg) × CalvinStands self.old ms × Suits (setting_of self.old.place) self.old.place.part part (msg.Rows id part rows.now) ms }
+        ensures place { self.new.place ≡ self.old.place }
+        ensures says { OnOk result ((ms : List messages.Msg) → CalvinStands self.old ms → Suits (setting_of self.old.place) self.old.place.part part (msg.Rows id part rows.now) ms → out.new.mails ≡ out.old.mails ++ says (setting_of self.old.place) self.old.place.part (msg.Rows id part rows.now ∷ ms)) }
+        ensures stands { OnOk result ((ms : List messages.Msg) → CalvinStands self.old ms → Suits (setting_of self.old.place) self.old.place.part part (msg.Rows id part rows.now) ms → CalvinStands self.new (msg.Rows id part rows.now ∷ ms)) }
+        ensures same_mails { OnErr result (out.new.mails ≡ out.old.mails) }
+        ensures same { OnErr result ((ms : List messages.Msg) → CalvinStands self.old ms → CalvinStands self.new ms) }
+    {
+        if self.is_complete(id, part)? {
+            self.finish(id, part, rows, out)
+        } else {
+            let rows = rows.copy(self.place.alloc)?;
+            self.arrivals.add(id, part, rows)
+        }
+    }
+}
