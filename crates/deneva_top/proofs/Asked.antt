@@ -1,4 +1,4 @@
--- What can be done under the words of a command: the configuration is in its ranges, and there are nodes for the protocol.
+-- The configuration that words give is in its ranges.
 use Rattle.std.proofs.Common.{◌≡◌, ◌≤◌, ℕ, Bool, true, false, List, [], ◌∷◌, Option, Some, None, refl, sym, ap, ◌∙◌, subst, arith}
 use Rattle.std.specs.Prelude.{not, ◌&&◌, ◌==◌, nat_le, length, if◌then◌else◌, option_and_then, codes, Ok, Err}
 use Rattle.std.specs.Result.{result_ok}
@@ -11,8 +11,6 @@ use Rattle.deneva_base.specs.declared.config.Protocol.{Protocol}
 use Rattle.server_core.specs.Configs.{IsConfig}
 use Rattle.server_core.specs.declared.schedules.Schedule.{Schedule}
 use Rattle.server_core.specs.declared.schedules.Schedule.TheVariants.{Fifo}
-use Rattle.replay.specs.Replayed.{is_built}
-use Rattle.deneva_top.specs.Calls.{asked, doable}
 use Rattle.deneva_top.specs.Numbers.{is_number, value_of}
 use Rattle.deneva_top.specs.Options.{Given, read_or, value_at, options_of}
 use Rattle.deneva_top.specs.Words.{number, protocol_of, schedule_of, config_of, replay_of, replay_options, command_of}
@@ -83,7 +81,8 @@ replay_of-ranges given c schedule e = go (config_of given) (read_or Fifo schedul
     go (Some d) None is e = absurd (none-some _ e)
     go (Some d) (Some order) is e = config_of-ranges given c (is ∙ ap (λ (x : Command). Some (replayed d x)) (same_Some _ _ e))
 
-command_of-ranges : (words : List (List ℕ)) (c : Config) (schedule : Schedule) → command_of words ≡ Some (Replay c schedule) → IsConfig c
+-- what is asked is in its ranges
+pub command_of-ranges : (words : List (List ℕ)) (c : Config) (schedule : Schedule) → command_of words ≡ Some (Replay c schedule) → IsConfig c
 command_of-ranges [] c schedule e = absurd (none-some _ e)
 command_of-ranges (word ∷ words) c schedule e = go (bytes_eq word (codes "serial")) (bytes_eq word (codes "replay")) (options_of [] words) (options_of replay_options words) e
   where
@@ -93,21 +92,3 @@ command_of-ranges (word ∷ words) c schedule e = go (bytes_eq word (codes "seri
     go false true none None e = absurd (none-some _ e)
     go false true none (Some given) e = replay_of-ranges given c schedule e
     go false false none some e = absurd (none-some _ e)
-
--- what is asked can be done
-pub asked_ranges : (words : List (List ℕ)) (c : Config) (schedule : Schedule) → asked words ≡ Some (Replay c schedule) → IsConfig c × (is_built c.protocol ≡ true)
-asked_ranges words c schedule e = go (command_of words) refl e
-  where
-    built : (d : Config) (order : Schedule) (b : Bool) → is_built d.protocol ≡ b → (if b then Some (Replay d order) else None) ≡ Some (Replay c schedule) → (Replay d order ≡ Replay c schedule) × (is_built d.protocol ≡ true)
-    built d order true is_b e = (same_Some _ _ e, is_b)
-    built d order false is_b e = absurd (none-some _ e)
-
-    go : (o : Option Command) → command_of words ≡ o → doable o ≡ Some (Replay c schedule) → IsConfig c × (is_built c.protocol ≡ true)
-    go None is e = absurd (none-some _ e)
-    go (Some Serial) is e = absurd (no_serial c schedule e)
-    go (Some (Replay d order)) is e =
-        let both = built d order (is_built d.protocol) refl e in
-        let same : d ≡ c = ap (replayed d) both.0 in (
-          command_of-ranges words c schedule (is ∙ ap Some both.0),
-          ap (λ (x : Config). is_built x.protocol) (sym same) ∙ both.1,
-        )

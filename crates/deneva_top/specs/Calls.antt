@@ -1,5 +1,5 @@
 -- What the top call answers and writes.
-use Rattle.std.specs.Prelude.{◌≡◌, ◌≢◌, ℕ, ◌≤◌, List, [], ◌∷◌, if◌then◌else◌, codes, decimal, Option, Some, None, Ok, Err}
+use Rattle.std.specs.Prelude.{◌≡◌, ◌≢◌, ℕ, ◌≤◌, List, [], ◌∷◌, codes, decimal, Option, Some, None, Ok, Err}
 use Rattle.deneva_io.specs.Streams.{Rose, IsOver}
 use Rattle.txn_program.specs.declared.programs.Workload.{Workload}
 use Rattle.txn_program.specs.Serial.{serial, all_ids}
@@ -13,22 +13,12 @@ use Rattle.deneva_top.specs.Words.{command_of}
 use Rattle.report.specs.Records.{Record, line_of}
 use Rattle.report.specs.ReportText.{report_text}
 use Rattle.report.specs.SerialOutcome.{serial_outcome}
-use Rattle.replay.specs.Replayed.{is_built, Replays}
+use Rattle.replay.specs.Replayed.{Replays}
 use Rattle.replay.specs.declared.runs.Ran.{Ran}
 
--- what can be done of that which words ask for: there have to be nodes for the protocol
-abbrev pub doable : Option Command → Option Command
-doable None = None
-doable (Some Serial) = Some Serial
-doable (Some (Replay config schedule)) = if is_built config.protocol then Some (Replay config schedule) else None
-
--- what words ask for
-abbrev pub asked : List (List ℕ) → Option Command
-asked words = doable (command_of words)
-
--- they ask for something that can be done
+-- words ask for something
 abbrev pub IsAsked : List (List ℕ) → Type 0
-IsAsked words = (job : Command) × (asked words ≡ Some job)
+IsAsked words = (job : Command) × (command_of words ≡ Some job)
 
 -- the last fields of a fault
 abbrev pub kind_fields : FaultKind → Record
@@ -65,9 +55,9 @@ Reports (Replay config schedule) work (Some ran) text = Replays config work sche
 -- what a call answers before it writes: its status, what was run, and its text, where the source told these bytes left and counted these faults, before and after
 pub record Answers (words : List (List ℕ)) (bytes bytes_now : Option (List ℕ)) (faults faults_now : ℕ) (status : ℕ) (run : Option Ran) (text : List ℕ) : Type 0 where
   pub known : status ≤ 4
-  pub report : status ≡ 0 → IsOver bytes_now × ((job : Command) × (work : Workload) × (asked words ≡ Some job) × InputIs bytes (Ok work) × Reports job work run text)
+  pub report : status ≡ 0 → IsOver bytes_now × ((job : Command) × (work : Workload) × (command_of words ≡ Some job) × InputIs bytes (Ok work) × Reports job work run text)
   pub no_run : status ≢ 0 → run ≡ None
   pub memory : status ≡ 1 → text ≡ codes "fault,memory\n"
-  pub refused : status ≡ 2 → (asked words ≡ None) × (text ≡ codes "fault,words\n")
+  pub refused : status ≡ 2 → (command_of words ≡ None) × (text ≡ codes "fault,words\n")
   pub input : status ≡ 3 → IsAsked words × ((f : InputFault) × InputIs bytes (Err f) × IsReadUnless f bytes_now × (text ≡ fault_line f))
   pub read : status ≡ 4 → IsAsked words × Rose faults faults_now × (text ≡ codes "fault,read\n")

@@ -6,7 +6,7 @@ ghost use Rattle.txn_program.specs.Valid.{IsValid};
 ghost use Rattle.txn_program.specs.declared.programs.Workload.{Workload};
 ghost use Rattle.deneva_top.specs.declared.workload_text.faults.InputFault.{InputFault};
 ghost use Rattle.deneva_top.specs.declared.words.Command.{Command};
-ghost use Rattle.deneva_top.specs.Calls as calls;
+ghost use Rattle.deneva_top.specs.Words.{command_of};
 ghost use Rattle.deneva_top.specs.Calls.{Answers, IsAsked, Reports, fault_line, report_of};
 ghost use Rattle.replay.specs.declared.runs.Ran.{Ran};
 ghost use Rattle.deneva_top.specs.Sources.{InputIs, WorkIs, FaultIs, IsReadUnless};
@@ -17,7 +17,7 @@ use crate::words::{Command, command_of};
 use crate::workload_text::{ReadError, read_workload};
 use deneva_base::{ByteList, IdList, NoMemory, TxnId};
 use deneva_io::{Put, Sink, Source};
-use replay::{Ran, is_built, replay};
+use replay::{Ran, replay};
 use report::{serial_outcome, write_report};
 use std::alloc::Global;
 use txn_program::{ProgramList, Workload};
@@ -69,26 +69,10 @@ impl Answer {
     }
 }
 
-/// What the words ask for, if it can be done.
-fn asked(alloc: Global, words: &[String]) -> Result<Option<Command>, NoMemory>
-    ensures { IfOk result (λ job. job ≡ calls.asked (map string_bytes words.now)) }
-{
-    match command_of(alloc, words)? {
-        Some(Command::Replay(config, schedule)) => {
-            if is_built(config.protocol) {
-                Ok(Some(Command::Replay(config, schedule)))
-            } else {
-                Ok(None)
-            }
-        }
-        other => Ok(other),
-    }
-}
-
 /// Does on a workload what is asked.
 fn done(alloc: Global, job: &Command, work: &Workload) -> Result<Answer, NoMemory>
     requires valid { IsValid work.now }
-    requires asked { (words : List (List ℕ)) × (calls.asked words ≡ Some job.now) }
+    requires asked { (words : List (List ℕ)) × (command_of words ≡ Some job.now) }
     ensures status { IfOk result (λ a. a.status ≡ 0) }
     ensures reports { IfOk result (λ a. Reports job.now work.now a.run a.text) }
 {
@@ -113,9 +97,9 @@ fn done(alloc: Global, job: &Command, work: &Workload) -> Result<Answer, NoMemor
 /// What the words and the input ask for. Want of memory is an answer of its own.
 fn answer_of<S: Source>(alloc: Global, words: &[String], source: &mut S) -> Result<Answer, NoMemory>
     ensures answer { IfOk result (λ a. Answers (map string_bytes words.now) (S.left source.old) (S.left source.new) (S.faults source.old) (S.faults source.new) a.status a.run a.text) }
-    ensures unread { calls.asked (map string_bytes words.now) ≡ None → (S.left source.new ≡ S.left source.old) × (S.faults source.new ≡ S.faults source.old) }
+    ensures unread { command_of (map string_bytes words.now) ≡ None → (S.left source.new ≡ S.left source.old) × (S.faults source.new ≡ S.faults source.old) }
 {
-    let Some(job) = asked(alloc, words)? else {
+    let Some(job) = command_of(alloc, words)? else {
         return Answer::of(alloc, 2, b"fault,words\n");
     };
     match read_workload(alloc, source) {
@@ -208,11 +192,11 @@ pub fn deneva<S: Source, K: Sink>(
 ) -> Ended
     // What each status says, and what was written.
     ensures known { result.status ≤ 5 }
-    ensures report { result.status ≡ 0 → IsOver (S.left source.new) × ((job : Command) × (work : Workload) × (text : List ℕ) × (calls.asked (map string_bytes words.now) ≡ Some job)
+    ensures report { result.status ≡ 0 → IsOver (S.left source.new) × ((job : Command) × (work : Workload) × (text : List ℕ) × (command_of (map string_bytes words.now) ≡ Some job)
         × InputIs (S.left source.old) (Ok work) × Reports job work result.run text × Grew (K.taken sink.old) (K.taken sink.new) text) }
     ensures no_run { result.status ≢ 0 → result.run ≡ None }
     ensures memory { result.status ≡ 1 → Grew (K.taken sink.old) (K.taken sink.new) (codes "fault,memory\n") }
-    ensures words { result.status ≡ 2 → (calls.asked (map string_bytes words.now) ≡ None)
+    ensures words { result.status ≡ 2 → (command_of (map string_bytes words.now) ≡ None)
         × Grew (K.taken sink.old) (K.taken sink.new) (codes "fault,words\n") }
     ensures input { result.status ≡ 3 → IsAsked (map string_bytes words.now)
         × ((f : InputFault) × InputIs (S.left source.old) (Err f) × IsReadUnless f (S.left source.new) × Grew (K.taken sink.old) (K.taken sink.new) (fault_line f)) }
@@ -223,8 +207,8 @@ pub fn deneva<S: Source, K: Sink>(
         × Grew (K.taken sink.old) (K.taken sink.new) (take at text)) }
 
     // When each comes, but for want of memory.
-    ensures refused { calls.asked (map string_bytes words.now) ≡ None → (result.status ≡ 2) ⊎ (result.status ≡ 1) ⊎ (result.status ≡ 5) }
-    ensures unread { calls.asked (map string_bytes words.now) ≡ None → (S.left source.new ≡ S.left source.old) × (S.faults source.new ≡ S.faults source.old) }
+    ensures refused { command_of (map string_bytes words.now) ≡ None → (result.status ≡ 2) ⊎ (result.status ≡ 1) ⊎ (result.status ≡ 5) }
+    ensures unread { command_of (map string_bytes words.now) ≡ None → (S.left source.new ≡ S.left source.old) × (S.faults source.new ≡ S.faults source.old) }
     ensures faulty { IsAsked (map string_bytes words.now)
         → (f : InputFault) → FaultIs (S.left source.old) f
         → (result.status ≡ 3) ⊎ (result.status ≡ 1) ⊎ (result.status ≡ 4) ⊎ (result.status ≡ 5) }

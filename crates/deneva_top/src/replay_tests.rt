@@ -5,8 +5,10 @@ use deneva_io::{MemSink, MemSource, SureSink, SureSource};
 use std::alloc::Global;
 use std::test::Fail;
 
-/// The words of the protocols that have nodes.
-const PROTOCOLS: [&str; 5] = ["nowait", "waitdie", "timestamp", "mvcc", "maat"];
+/// The words of the protocols that vote.
+const VOTING: [&str; 5] = ["nowait", "waitdie", "timestamp", "mvcc", "maat"];
+
+const PROTOCOLS: [&str; 6] = ["nowait", "waitdie", "timestamp", "mvcc", "maat", "calvin"];
 
 const ROOM: usize = 10_000;
 
@@ -18,6 +20,15 @@ const TWO_UPDATES: &str = "deneva,1,ycsb,1\nrow,1,a\ntxn,u,1,0,x\ntxn,u,1,0,y\ne
 
 const WRITE_SKEW: &str =
     "deneva,1,ycsb,1\nrow,1,a\nrow,2,b\ntxn,r,1,u,2,0,p\ntxn,r,2,u,1,0,q\nend\n";
+
+/// Over two partitions: 2 reads the key that 1 updates, and 2 and 3 each read the key that the other updates.
+const CHAIN: &str =
+    "deneva,1,ycsb,1\nrow,1,c\nrow,2,b\nrow,4,a\ntxn,u,4,0,A\ntxn,r,4,r,2,u,1,0,C\ntxn,u,2,0,B,r,1\nend\n";
+
+/// Over two partitions all nine have their home at partition 0: eight of them in epoch 0, and the last, which reads what
+/// the eighth updates and updates what all read, in epoch 1.
+const TWO_EPOCHS: &str =
+    "deneva,1,ycsb,1\nrow,1,a\nrow,2,b\ntxn,r,2\ntxn,r,2\ntxn,r,2\ntxn,r,2\ntxn,r,2\ntxn,r,2\ntxn,r,2\ntxn,r,2,u,1,0,x\ntxn,u,2,0,y,r,1\nend\n";
 
 const OLD_READ: &str = "deneva,1,ycsb,1\nrow,1,a\nrow,9,b\ntxn,r,9,r,1\ntxn,u,1,0,y\nend\n";
 
@@ -162,7 +173,7 @@ fn windows_of_maat(rt: HostRuntime) -> Result<(), Fail> {
         // flight: its votes are [3, 4098] and [1, 1].
         (
             "--protocol maat --partitions 2 --order list:0.2.2.2.2.2.2.0.0.0.0.0.0.0.0.0.0.0.2.2.2.2.2.2",
-            "deneva,1,ycsb,1\nrow,1,c\nrow,2,b\nrow,4,a\ntxn,u,4,0,A\ntxn,r,4,r,2,u,1,0,C\ntxn,u,2,0,B,r,1\nend\n",
+            CHAIN,
             "deneva-report,1,maat,2\ncommit,1,1,0,0\nread,0.4.0.0,a\ncommit,2,2,0,0.1\nread,0.4.0.0,A\nread,0.2.0.0,b\nread,0.1.0.0,c\ncommit,3,3,0,0.1\nread,0.2.0.0,b\nread,0.1.0.0,C\nabort,3,1,29,0,apart,3,0,1,1\nrow,0.1.0.0,C\nrow,0.2.0.0,B\nrow,0.4.0.0,A\nend\n",
         ),
         (
@@ -272,8 +283,36 @@ fn several_partitions_and_puts(rt: HostRuntime) -> Result<(), Fail> {
 }
 
 #[test]
+fn the_global_order_of_calvin(rt: HostRuntime) -> Result<(), Fail> {
+    let alloc = rt.alloc();
+    let chain =
+        "commit,1,1,0,0\nread,0.4.0.0,a\ncommit,2,2,0,0.1\nread,0.4.0.0,A\nread,0.2.0.0,b\nread,0.1.0.0,c\ncommit,3,3,0,0.1\nread,0.2.0.0,b\nread,0.1.0.0,C\nrow,0.1.0.0,C\nrow,0.2.0.0,B\nrow,0.4.0.0,A\nend\n";
+    // With two nodes the transaction at index 0 of epoch 1 of node 0 has the number (1 * 2 + 0) * 8 + 0 + 1.
+    let epochs =
+        "commit,1,1,0,0\nread,0.2.0.0,b\ncommit,2,2,0,0\nread,0.2.0.0,b\ncommit,3,3,0,0\nread,0.2.0.0,b\ncommit,4,4,0,0\nread,0.2.0.0,b\ncommit,5,5,0,0\nread,0.2.0.0,b\ncommit,6,6,0,0\nread,0.2.0.0,b\ncommit,7,7,0,0\nread,0.2.0.0,b\ncommit,8,8,0,0.1\nread,0.2.0.0,b\nread,0.1.0.0,a\ncommit,17,9,0,0.1\nread,0.2.0.0,b\nread,0.1.0.0,x\nrow,0.1.0.0,x\nrow,0.2.0.0,y\nend\n";
+    for order in &["fifo", "lifo", "seed:1", "seed:2", "seed:3"] {
+        assert!(rt; reports(alloc, "calvin", order, "2", CHAIN, chain)?);
+        assert!(rt; reports(alloc, "calvin", order, "2", TWO_EPOCHS, epochs)?);
+    }
+    let cases = [
+        // Attempts and open transactions are of the protocols that vote.
+        (
+            "--protocol calvin --attempts 1 --limit 1",
+            WRITE_SKEW,
+            "deneva-report,1,calvin,1\ncommit,1,1,0,0\nread,0.1.0.0,a\nread,0.2.0.0,b\ncommit,2,2,0,0\nread,0.2.0.0,p\nread,0.1.0.0,a\nrow,0.1.0.0,q\nrow,0.2.0.0,p\nend\n",
+        ),
+        (
+            "--protocol calvin --order list:0.0.1.1.1.1.1.1",
+            PUTS,
+            "deneva-report,1,calvin,1\ncommit,1,1,0,0\nread,0.9.0.0,b\ncommit,2,2,0,0\nrow,0.1.0.0,y\nrow,0.9.0.0,b\nend\n",
+        ),
+    ];
+    assert_eq!(rt; first_other(alloc, &cases)?, None);
+    Ok(())
+}
+
+#[test]
 fn words_of_replay_that_are_refused(rt: HostRuntime) -> Result<(), Fail> {
-    // There are no nodes for the last of these yet.
     let refused = [
         "replay --protocol nowait --partitions 17",
         "replay --protocol nowait --attempts 9",
@@ -281,7 +320,7 @@ fn words_of_replay_that_are_refused(rt: HostRuntime) -> Result<(), Fail> {
         "replay --protocol nowait --protocol nowait",
         "replay --protocol nowait --brief",
         "replay --partitions 2",
-        "replay --protocol calvin",
+        "replay --protocol occ",
     ];
     for line in &refused {
         let (status, sink) = run(rt.alloc(), line, TWO_UPDATES)?;
@@ -328,12 +367,14 @@ fn a_run_is_kept_at_status_0_alone(rt: HostRuntime) -> Result<(), Fail> {
         (9, 1, 0, Some(7)),
         (0, 0, 5, None),
     ];
-    for protocol in &PROTOCOLS {
+    for protocol in &VOTING {
         for (read, write, status, entries) in &cases {
             let (ended, kept) = run_failing(rt.alloc(), protocol, *read, *write)?;
             assert_eq!(rt; ended, *status);
             assert_eq!(rt; kept, *entries);
         }
     }
+    // Under Calvin it has a Tick, a Batch, a Rows and a Finished.
+    assert_eq!(rt; run_failing(rt.alloc(), "calvin", 9, 9)?, (0, Some(4)));
     Ok(())
 }

@@ -1,26 +1,29 @@
 -- What the run of a workload is, and what came of it.
-use Rattle.std.specs.Prelude.{◌≡◌, Bool, true, false, reverse}
+use Rattle.std.specs.Prelude.{◌≡◌, [], reverse}
 use Rattle.deneva_base.specs.declared.config.Config.{Config}
-use Rattle.deneva_base.specs.declared.config.Protocol.{Protocol}
 use Rattle.deneva_base.specs.declared.config.Protocol.TheVariants.{Calvin}
 use Rattle.txn_program.specs.declared.programs.Workload.{Workload}
 use Rattle.server_core.specs.Atomic.{IsAtomic}
+use Rattle.server_core.specs.CalvinSerial.{serial_lines}
+use Rattle.server_core.specs.GlobalOrder.{order}
 use Rattle.server_core.specs.IsSerial.{IsSerial}
 use Rattle.server_core.specs.Named.{AllNamed}
-use Rattle.server_core.specs.Outcome.{outcome}
+use Rattle.server_core.specs.Outcome.{outcome, outcome_with}
 use Rattle.server_core.specs.Picks.{picked}
 use Rattle.server_core.specs.Says.{IsQuiet}
+use Rattle.server_core.specs.Setting.{setting}
+use Rattle.server_core.specs.declared.outcomes.Outcome.{Outcome}
 use Rattle.server_core.specs.declared.schedules.Schedule.{Schedule}
 use Rattle.replay.specs.declared.runs.Ran.{Ran}
 
--- there are nodes for the protocol
-abbrev pub is_built : Protocol → Bool
-is_built Calvin = false
-is_built p = true
+-- the outcome of the transactions executed one at a time on one map in Calvin's global order, with the numbers of that order
+abbrev pub in_global_order : Config → Workload → Outcome
+in_global_order c w = let s = setting c w in outcome_with c w (serial_lines s s.loaded (order s)) [] []
 
 -- the run that the schedule picks, which has nothing in flight after it, and its outcome: its decided transactions,
 -- executed one at a time in the order of their numbers, give each its reads and the last rows; each transaction is decided
--- at all its participants or at none; and each abort names what its protocol's rule found there
+-- at all its participants or at none; each abort names what its protocol's rule found there; and under Calvin, whatever
+-- the schedule, the outcome is that of the global order
 pub record Replays (c : Config) (w : Workload) (schedule : Schedule) (ran : Ran) : Type 0 where
   pub history : ran.history ≡ reverse (picked c w schedule)
   pub quiet : IsQuiet c w (picked c w schedule)
@@ -28,3 +31,4 @@ pub record Replays (c : Config) (w : Workload) (schedule : Schedule) (ran : Ran)
   pub serial : IsSerial w ran.outcome
   pub atomic : IsAtomic c w (picked c w schedule)
   pub named : AllNamed c w (picked c w schedule)
+  pub ordered : c.protocol ≡ Calvin → ran.outcome ≡ in_global_order c w

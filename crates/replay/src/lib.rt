@@ -4,4 +4,4 @@
 mod runs;
 mod threads;
 
-pub use runs::{Ran, is_built, replay};
+pub use runs::{Ran, replay};

@@ -1,10 +1,10 @@
 //! Whole runs.
-ghost use Rattle.std.specs.Prelude.{◌≡◌, true, IfOk};
+ghost use Rattle.std.specs.Prelude.{◌≡◌, IfOk};
 ghost use Rattle.server_core.specs.Configs.{IsConfig};
 ghost use Rattle.txn_program.specs.Valid.{IsValid};
-ghost use Rattle.replay.specs.Replayed as spec;
 ghost use Rattle.replay.specs.Replayed.{Replays};
 
+use calvin_sched::CalvinNode;
 use chain_control::Chains;
 use deneva_base::{Config, NoMemory, Protocol};
 use lock_control::Locks;
@@ -22,13 +22,6 @@ use world::{World, run_all};
 pub struct Ran {
     pub history: History,
     pub outcome: Outcome,
-}
-
-/// Whether there are nodes for a protocol.
-pub fn is_built(protocol: Protocol) -> bool
-    ensures { result ≡ spec.is_built protocol }
-{
-    !matches!(protocol, Protocol::Calvin)
 }
 
 /// The run of these nodes that a schedule picks.
@@ -61,7 +54,6 @@ pub fn replay(
 ) -> Result<Ran, NoMemory>
     requires config { IsConfig config }
     requires valid { IsValid work.now }
-    requires built { spec.is_built config.protocol ≡ true }
     ensures { IfOk result (λ ran. Replays config work.now schedule.now ran) }
 {
     match config.protocol {
@@ -70,6 +62,6 @@ pub fn replay(
         Protocol::Timestamp => run_in::<Node<Stamps>>(alloc, config, work, schedule),
         Protocol::Mvcc => run_in::<Node<Chains<4>>>(alloc, config, work, schedule),
         Protocol::Maat => run_in::<Node<Ranges<4096>>>(alloc, config, work, schedule),
-        Protocol::Calvin => unreachable!(),
+        Protocol::Calvin => run_in::<CalvinNode>(alloc, config, work, schedule),
     }
 }
