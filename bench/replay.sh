@@ -1,6 +1,5 @@
 #!/bin/sh
-# Prints the seconds, the peak memory and the counts of commits and aborts of `deneva replay` under each protocol that has
-# nodes: on the workload of serial.sh (100,000 rows of 10 fields of 30 letters and 10,000 transactions of 16 accesses, half
+# Prints the seconds, the peak memory and the counts of commits and aborts of `deneva replay` under each protocol: on the workload of serial.sh (100,000 rows of 10 fields of 30 letters and 10,000 transactions of 16 accesses, half
 # of them reads) at 16 partitions under three orders, on its half, and on a hot one (64 rows of one field of 8 letters,
 # 10,000 transactions of 8 accesses, nine tenths of them reads) at 4 partitions with 64 transactions open at each node.
 set -eu
@@ -38,7 +37,7 @@ PYTHON
 python3 "$top/bench/ycsb.py" 100000 10 30 10000 16 50 >"$work/whole.csv"
 python3 "$top/bench/ycsb.py" 100000 10 30 5000 16 50 >"$work/half.csv"
 python3 "$top/bench/ycsb.py" 64 1 8 10000 8 90 >"$work/hot.csv"
-for protocol in nowait waitdie timestamp mvcc maat; do
+for protocol in nowait waitdie timestamp mvcc maat calvin; do
     for order in fifo lifo seed:5; do
         measure "10,000 transactions" "$work/whole.csv" --protocol "$protocol" --partitions 16 --order "$order"
         measure "5,000 transactions" "$work/half.csv" --protocol "$protocol" --partitions 16 --order "$order"
