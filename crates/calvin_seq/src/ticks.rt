@@ -19,6 +19,7 @@ use std::alloc::Global;
 use txn_program::Workload;
 
 impl<'w> Sequencer<'w> {
+    /// The sequencer of the node `part`, counted from 0. It has closed no epoch.
     pub fn begin(
         alloc: Global,
         config: Config,

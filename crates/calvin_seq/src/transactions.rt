@@ -16,6 +16,7 @@ use std::alloc::Global;
 use txn_program::{Effect, Program, Workload, accesses_of, effect_of, home};
 
 impl<'w> Place<'w> {
+    /// The node `part`, counted from 0, of a run of the workload.
     pub fn new(alloc: Global, config: Config, part: u8, work: &'w Workload) -> Place<'w>
         requires config { IsConfig config }
         requires valid { IsValid work.now }
