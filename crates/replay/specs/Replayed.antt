@@ -1,5 +1,5 @@
 -- What the run of a workload is, and what came of it.
-use Rattle.std.specs.Prelude.{◌≡◌, [], reverse}
+use Rattle.std.specs.Prelude.{◌≡◌, ℕ, [], reverse}
 use Rattle.deneva_base.specs.declared.config.Config.{Config}
 use Rattle.deneva_base.specs.declared.config.Protocol.TheVariants.{Calvin}
 use Rattle.txn_program.specs.declared.programs.Workload.{Workload}
@@ -16,9 +16,16 @@ use Rattle.server_core.specs.declared.outcomes.Outcome.{Outcome}
 use Rattle.server_core.specs.declared.schedules.Schedule.{Schedule}
 use Rattle.replay.specs.declared.runs.Ran.{Ran}
 
--- the outcome of the transactions executed one at a time on one map in Calvin's global order, with the numbers of that order
-abbrev pub in_global_order : Config → Workload → Outcome
-in_global_order c w = let s = setting c w in outcome_with c w (serial_lines s s.loaded (order s)) [] []
+-- a configuration under Calvin, which tries each transaction once
+abbrev pub in_order : ℕ → Config
+in_order parts = record { protocol = Calvin; parts = parts; attempts = 1; limit = 1 }
+
+-- the outcome over so many partitions of the transactions executed one at a time on one map in Calvin's global order, with
+-- the numbers of that order
+abbrev pub in_global_order : ℕ → Workload → Outcome
+in_global_order parts w =
+    let s = setting (in_order parts) w in
+    outcome_with (in_order parts) w (serial_lines s s.loaded (order s)) [] []
 
 -- the run that the schedule picks, which has nothing in flight after it, and its outcome: its decided transactions,
 -- executed one at a time in the order of their numbers, give each its reads and the last rows; each transaction is decided
@@ -31,4 +38,4 @@ pub record Replays (c : Config) (w : Workload) (schedule : Schedule) (ran : Ran)
   pub serial : IsSerial w ran.outcome
   pub atomic : IsAtomic c w (picked c w schedule)
   pub named : AllNamed c w (picked c w schedule)
-  pub ordered : c.protocol ≡ Calvin → ran.outcome ≡ in_global_order c w
+  pub ordered : c.protocol ≡ Calvin → ran.outcome ≡ in_global_order c.parts w

@@ -12,7 +12,7 @@ use Rattle.server_core.specs.declared.messages.Entry.{Entry}
 use Rattle.server_core.specs.declared.outcomes.Outcome.{Outcome}
 use Rattle.report.specs.Outcomes.{with_rows}
 use Rattle.server_core.proofs.ByOrder.{outcome_is}
-use Rattle.replay.proofs.Outcomes.{outcome_rows}
+use Rattle.replay.proofs.Outcomes.{outcome_rows, ordered_outcome}
 use Rattle.replay.proofs.runs.run_in.Goals as goal
 
 pub returns : goal.returns
@@ -41,5 +41,5 @@ returns g c =
       serial = subst (λ (o : Outcome). IsSerial work o) (sym same) (law.serial config work H ranges valid quiet);
       atomic = law.atomic config work H ranges valid quiet;
       named = law.named config work H _ ranges valid quiet;
-      ordered = λ is_calvin. same ∙ outcome_is config work is_calvin ranges valid H quiet;
+      ordered = λ is_calvin. same ∙ outcome_is config work is_calvin ranges valid H quiet ∙ ordered_outcome config work is_calvin;
     }
