@@ -1,5 +1,5 @@
 //! What a node knows of the transactions of its run, and how it tells other nodes.
-ghost use Rattle.std.specs.Prelude.{◌≡◌, ◌<◌, ◌≤◌, ◌++◌, IfOk, OnOk};
+ghost use Rattle.std.specs.Prelude.{◌≡◌, ◌<◌, ◌≤◌, ◌++◌, ℕ, take, IfOk, OnOk, OnErr};
 ghost use Rattle.deneva_base.specs.Lists.{IsIn};
 ghost use Rattle.txn_program.specs.Serial.{all_ids, program_of};
 ghost use Rattle.txn_program.specs.Valid.{IsValid};
@@ -87,9 +87,11 @@ impl<'w> Place<'w> {
         effect_of(self.alloc, &self.work.load, id, self.program(id), rows)
     }
 
-    /// Puts mails of this node at the end, one with a copy of the message for each of these nodes.
+    /// Puts mails of this node at the end, one with a copy of the message for each of these nodes. Where there is no memory
+    /// for all, only those of the first nodes are there.
     pub fn push_to_all(&self, mails: &mut MailList, msg: &Msg, parts: &[u8]) -> Result<(), NoMemory>
-        ensures { OnOk result (mails.new ≡ mails.old ++ to_all self.now.part msg.now parts.now) }
+        ensures ok { OnOk result (mails.new ≡ mails.old ++ to_all self.now.part msg.now parts.now) }
+        ensures err { OnErr result ((n : ℕ) × (mails.new ≡ mails.old ++ to_all self.now.part msg.now (take n parts.now))) }
     {
         for part in parts {
             mails.push(Mail {
