@@ -15,7 +15,7 @@ one_field a = record { key = ycsb_key a; row = Text [] ∷ [] }
 abbrev pub one_read : ℕ → Program
 one_read a = Ycsb (record { key = a; act = Read } ∷ [])
 
--- ten transactions that read one row each: the third reads row 0, and the others row 1
+-- ten transactions that read one row each: the third that of key 0, and the others that of key 1
 abbrev pub ten_reads : Workload
 ten_reads = record {
   load = record { kind = kind.Ycsb; fields = 1; rows = one_field 0 ∷ one_field 1 ∷ [] };
