@@ -12,7 +12,7 @@ ghost use Rattle.row_store.specs.Stores.{version_at, has};
 ghost use Rattle.stamp_lines.specs.declared.requests.Request.{Request};
 ghost use Rattle.deneva_base.specs.Modes.{reads};
 ghost use Rattle.stamp_lines.specs.Requests.{is_stopped};
-ghost use Rattle.stamp_lines.specs.Tables.{requests_at, part_of};
+ghost use Rattle.stamp_lines.specs.Tables.{requests_at, part_of, waiting_of};
 ghost use Rattle.stamp_control.specs.Picks.{pick};
 ghost use Rattle.stamp_control.specs.Pasts.{past_at};
 ghost use Rattle.stamp_control.specs.Fronts.{front_over};
@@ -26,7 +26,7 @@ use deneva_base::{
     Woken,
 };
 use row_store::{Store, Version};
-use stamp_lines::{Accesses, Part, Request, Waiter};
+use stamp_lines::{Accesses, Request, Waiter};
 
 /// The rows, the accesses, and what is kept of each key, with the number of appended rows for which there is room in the
 /// store.
@@ -110,7 +110,7 @@ impl Table {
     /// Grants an access.
     pub fn grant(&mut self, key: Key, asked: Request) -> Result<Answer, NoMemory>
         requires once { (r : Request) → IsIn r (requests_at self.old.accesses key) → r.who ≢ asked.who }
-        requires few { self.old.accesses.waiting < 2 ^ 63 }
+        requires few { waiting_of self.old.accesses < 2 ^ 63 }
         ensures answer { IfOk result (λ a. a ≡ Granted (read_in asked.mode (version_at self.old.store key)).0 (read_in asked.mode (version_at self.old.store key)).1 0) }
         ensures ok { OnOk result (Grants key asked self.old self.new) }
         ensures err { OnErr result (MayWiden self.old self.new) }
@@ -130,7 +130,7 @@ impl Table {
     /// Lets an access wait. The row of its key is kept for it.
     pub fn wait(&mut self, key: Key, asked: Request) -> Result<Answer, NoMemory>
         requires once { (r : Request) → IsIn r (requests_at self.old.accesses key) → r.who ≢ asked.who }
-        requires few { self.old.accesses.waiting < 2 ^ 63 }
+        requires few { waiting_of self.old.accesses < 2 ^ 63 }
         ensures answer { IfOk result (λ a. a ≡ Waits) }
         ensures ok { OnOk result (LetsWait key asked self.old self.new) }
         ensures err { OnErr result (MayWiden self.old self.new) }
@@ -153,7 +153,7 @@ impl Table {
         ensures { result ≡ (part_of self.now.accesses who).stamp }
     {
         match self.accesses.part(who) {
-            Some(part) => part.stamp,
+            Some(part) => part.stamp(),
             None => 0,
         }
     }
@@ -249,7 +249,7 @@ impl Table {
         ensures { IfOk result (λ wakes. wakes ≡ map (wake_for self.now.pasts number (part_of self.now.accesses ended).writes) front.now) }
     {
         match self.accesses.part(ended) {
-            Some(part) => self.wakes_of(front, number, part.writes.as_slice()),
+            Some(part) => self.wakes_of(front, number, part.writes()),
             None => self.wakes_of(front, number, &[]),
         }
     }
@@ -260,7 +260,7 @@ impl Table {
     {
         let alloc = self.store.allocator();
         match self.accesses.part(ended) {
-            Some(part) => front_of(alloc, &self.accesses, &part.keys, ended),
+            Some(part) => front_of(alloc, &self.accesses, part.keys(), ended),
             None => Ok(Vec::new(alloc)),
         }
     }
@@ -270,7 +270,7 @@ impl Table {
         ensures { result ≡ none (front_over ended self.now.accesses (part_of self.now.accesses ended).keys) }
     {
         match self.accesses.part(ended) {
-            Some(part) => is_idle(&self.accesses, &part.keys, ended),
+            Some(part) => is_idle(&self.accesses, part.keys(), ended),
             None => true,
         }
     }
@@ -288,13 +288,7 @@ impl Table {
         let Some(part) = self.accesses.end(who) else {
             return Vec::new(self.store.allocator());
         };
-        let Part {
-            keys,
-            writes,
-            copies,
-            appends,
-            ..
-        } = part;
+        let (keys, writes, copies, appends) = part.into_lists();
         self.promised -= appends.len();
         if let Some(number) = number {
             write_rows(&mut self.store, number, writes);
@@ -306,7 +300,7 @@ impl Table {
 
     /// Grants these accesses.
     fn wake(&mut self, front: &[Waiter])
-        requires few { length front.now ≤ self.old.accesses.waiting }
+        requires few { length front.now ≤ waiting_of self.old.accesses }
         ensures { Wakes front.now self.old self.new }
     {
         self.accesses.wake_all(front);
@@ -320,7 +314,7 @@ impl Table {
         requires room { self.old.promised ≤ self.old.store.spare }
         requires distinct { Distinct (part_of self.old.accesses who).copies }
         requires spare { (w : Keyed) → IsIn w (part_of self.old.accesses who).copies → 1 ≤ (past_at self.old.pasts w.key).spare }
-        requires few { length front.now ≤ self.old.accesses.waiting }
+        requires few { length front.now ≤ waiting_of self.old.accesses }
         ensures { EndsAndWakes who number front.now self.old self.new }
     {
         let keys = self.end(who, number);
@@ -341,7 +335,7 @@ impl Table {
         requires room { self.old.promised ≤ self.old.store.spare }
         requires distinct { Distinct (part_of self.old.accesses who).copies }
         requires spare { (w : Keyed) → IsIn w (part_of self.old.accesses who).copies → 1 ≤ (past_at self.old.pasts w.key).spare }
-        requires few { length (front_over who self.old.accesses (part_of self.old.accesses who).keys) ≤ self.old.accesses.waiting }
+        requires few { length (front_over who self.old.accesses (part_of self.old.accesses who).keys) ≤ waiting_of self.old.accesses }
         ensures woken { OnOk result (woken.new ≡ woken.old ++ map (wake_for self.old.pasts number (part_of self.old.accesses who).writes) (front_over who self.old.accesses (part_of self.old.accesses who).keys)) }
         ensures ok { OnOk result (EndsAndWakes who number (front_over who self.old.accesses (part_of self.old.accesses who).keys) self.old self.new) }
         ensures err { OnErr result (self.new ≡ self.old) }

@@ -71,6 +71,10 @@ holding_at t who = holding_in (lookup (attempt_eq who) t.parts.entries)
 abbrev pub part_of : Accesses → Attempt → Holding
 part_of a who = holding_at a.parts who
 
+-- how many requests wait
+abbrev pub waiting_of : Accesses → ℕ
+waiting_of a = a.waiting
+
 -- the keys in their order, with one more
 abbrev pub put_key : Key → List Key → List Key
 put_key key [] = key ∷ []

@@ -3,7 +3,7 @@ ghost use Rattle.std.specs.Prelude.{◌≡◌, ◌≢◌, ◌≤◌, ◌<◌, �
 ghost use Rattle.deneva_base.specs.Lists.{IsIn};
 ghost use Rattle.stamp_lines.specs.declared.requests.Request.{Request};
 ghost use Rattle.stamp_lines.specs.Requests.{is_stopped, first_writer};
-ghost use Rattle.stamp_lines.specs.Tables.{requests_at, part_of, holding_in};
+ghost use Rattle.stamp_lines.specs.Tables.{requests_at, part_of, waiting_of, holding_in};
 ghost use Rattle.stamp_lines.specs.Changes.{IsFresh, Same, Adds, Promises, Ends, Wakes};
 
 use crate::lines::{Lines, Waiter};
@@ -16,9 +16,9 @@ use std::alloc::Global;
 /// The accesses by key and by attempt, and how many wait.
 #[derive(Drop)]
 pub struct Accesses {
-    pub lines: Lines,
-    pub parts: Parts,
-    pub waiting: usize,
+    lines: Lines,
+    parts: Parts,
+    waiting: usize,
 }
 
 impl Accesses {
@@ -48,7 +48,7 @@ impl Accesses {
 
     /// How many requests wait.
     pub fn waiting(&self) -> usize
-        ensures { result ≡ self.now.waiting }
+        ensures { result ≡ waiting_of self.now }
     {
         self.waiting
     }
@@ -71,7 +71,7 @@ impl Accesses {
     /// Adds a request for a key that the attempt has not asked for.
     pub fn add(&mut self, key: Key, request: Request) -> Result<(), NoMemory>
         requires once { (r : Request) → IsIn r (requests_at self.old key) → r.who ≢ request.who }
-        requires few { self.old.waiting < 2 ^ 63 }
+        requires few { waiting_of self.old < 2 ^ 63 }
         ensures ok { OnOk result (Adds key request self.old self.new) }
         ensures err { OnErr result (Same self.old self.new) }
     {
@@ -107,13 +107,13 @@ impl Accesses {
         ensures rest { Ends who self.old self.new }
     {
         let part = self.parts.take(who)?;
-        self.lines.end_all(&part.keys, who);
+        self.lines.end_all(part.keys(), who);
         Some(part)
     }
 
     /// Grants these requests.
     pub fn wake_all(&mut self, waiters: &[Waiter])
-        requires { length waiters.now ≤ self.old.waiting }
+        requires { length waiters.now ≤ waiting_of self.old }
         ensures { Wakes waiters.now self.old self.new }
     {
         self.waiting -= waiters.len();

@@ -9,6 +9,6 @@ mod requests;
 mod threads;
 
 pub use accesses::Accesses;
-pub use lines::{Lines, Waiter};
-pub use parts::{Part, Parts};
-pub use requests::{Line, Request};
+pub use lines::Waiter;
+pub use parts::Part;
+pub use requests::Request;

@@ -20,13 +20,13 @@ pub struct Waiter {
 
 /// The requests for each key, by rising stamp.
 #[derive(Drop)]
-pub struct Lines {
+pub(crate) struct Lines {
     alloc: Global,
-    pub lines: HashMap<Key, Line>,
+    lines: HashMap<Key, Line>,
 }
 
 impl Lines {
-    pub(crate) fn new(alloc: Global) -> Lines
+    pub fn new(alloc: Global) -> Lines
         ensures { (key : Key) → line_at result key ≡ [] }
     {
         Lines {
@@ -36,7 +36,7 @@ impl Lines {
     }
 
     /// Whether an access is granted that writes and has a stamp above `from` and below `stamp`.
-    pub(crate) fn is_stopped(&self, key: Key, from: u64, stamp: u64) -> bool
+    pub fn is_stopped(&self, key: Key, from: u64, stamp: u64) -> bool
         ensures { result ≡ is_stopped from stamp (line_at self.now key) }
     {
         match self.lines.get(&key) {
@@ -46,7 +46,7 @@ impl Lines {
     }
 
     /// The least stamp above `from` of an access that writes, granted or waiting, other than the ended attempt's.
-    pub(crate) fn first_writer(&self, key: Key, from: u64, ended: Attempt) -> Option<u64>
+    pub fn first_writer(&self, key: Key, from: u64, ended: Attempt) -> Option<u64>
         ensures { result ≡ first_writer from ended (line_at self.now key) }
     {
         match self.lines.get(&key) {
@@ -56,7 +56,7 @@ impl Lines {
     }
 
     /// The requests for the key.
-    pub(crate) fn requests(&self, key: Key) -> &[Request]
+    pub fn requests(&self, key: Key) -> &[Request]
         ensures { result.now ≡ line_at self.now key }
     {
         match self.lines.get(&key) {
@@ -66,7 +66,7 @@ impl Lines {
     }
 
     /// Adds a request for the key.
-    pub(crate) fn add(&mut self, key: Key, request: Request) -> Result<(), NoMemory>
+    pub fn add(&mut self, key: Key, request: Request) -> Result<(), NoMemory>
         ensures ok { OnOk result (SetsLine self.old key (put_request request (line_at self.old key)) self.new) }
         ensures err { OnErr result (SameLines self.old self.new) }
     {
@@ -80,7 +80,7 @@ impl Lines {
     }
 
     /// Takes out the attempt's request for the key.
-    pub(crate) fn end(&mut self, key: Key, who: Attempt)
+    pub fn end(&mut self, key: Key, who: Attempt)
         ensures { SetsLine self.old key (without who (line_at self.old key)) self.new }
     {
         if let Some(line) = self.lines.get_mut(&key) {
@@ -89,7 +89,7 @@ impl Lines {
     }
 
     /// Takes out the attempt's requests for these keys.
-    pub(crate) fn end_all(&mut self, keys: &[Key], who: Attempt)
+    pub fn end_all(&mut self, keys: &[Key], who: Attempt)
         ensures { (other : Key) → line_at self.new other ≡ all_ended who keys.now other (line_at self.old other) }
     {
         for key in keys {
@@ -107,7 +107,7 @@ impl Lines {
     }
 
     /// Grants these requests.
-    pub(crate) fn wake_all(&mut self, waiters: &[Waiter])
+    pub fn wake_all(&mut self, waiters: &[Waiter])
         ensures { (other : Key) → line_at self.new other ≡ all_granted waiters.now other (line_at self.old other) }
     {
         for waiter in waiters {

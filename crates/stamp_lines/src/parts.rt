@@ -4,7 +4,7 @@ ghost use Rattle.deneva_base.specs.declared.numbers.Attempt.{Attempt};
 ghost use Rattle.stamp_lines.specs.Tables.{put_key, holding_at, holding_of, holding_in, nothing, with_key, with_rows, SetsHolding, SameHoldings};
 
 use control_core::PrepareNoMemory;
-use deneva_base::{Attempt, Key, NoMemory, RowList};
+use deneva_base::{Attempt, Key, Keyed, NoMemory, RowList};
 use std::alloc::Global;
 use std::collections::HashMap;
 
@@ -12,11 +12,11 @@ use std::collections::HashMap;
 /// writes twice.
 #[derive(Drop)]
 pub struct Part {
-    pub stamp: u64,
-    pub keys: Vec<Key>,
-    pub writes: RowList,
-    pub copies: RowList,
-    pub appends: RowList,
+    stamp: u64,
+    keys: Vec<Key>,
+    writes: RowList,
+    copies: RowList,
+    appends: RowList,
 }
 
 impl Part {
@@ -30,6 +30,37 @@ impl Part {
             copies: RowList::new(alloc),
             appends: RowList::new(alloc),
         }
+    }
+
+    /// The stamp of its last access.
+    pub fn stamp(&self) -> u64
+        ensures { result ≡ (holding_of self.now).stamp }
+    {
+        self.stamp
+    }
+
+    /// The keys that it asked for, in key order.
+    pub fn keys(&self) -> &[Key]
+        ensures { result.now ≡ (holding_of self.now).keys }
+    {
+        &self.keys
+    }
+
+    /// The rows that it voted to write.
+    pub fn writes(&self) -> &[Keyed]
+        ensures { result.now ≡ (holding_of self.now).writes }
+    {
+        self.writes.as_slice()
+    }
+
+    /// Its keys, the rows that it writes, their copies, and the rows that it appends.
+    pub fn into_lists(self) -> (Vec<Key>, RowList, RowList, RowList)
+        ensures keys { result.0.items ≡ (holding_of self).keys }
+        ensures writes { result.1 ≡ (holding_of self).writes }
+        ensures copies { result.2 ≡ (holding_of self).copies }
+        ensures appends { result.3 ≡ (holding_of self).appends }
+    {
+        (self.keys, self.writes, self.copies, self.appends)
     }
 
     /// Puts a key in its place.
@@ -60,13 +91,13 @@ impl Part {
 
 /// What each attempt has here.
 #[derive(Drop)]
-pub struct Parts {
+pub(crate) struct Parts {
     alloc: Global,
-    pub parts: HashMap<Attempt, Part>,
+    parts: HashMap<Attempt, Part>,
 }
 
 impl Parts {
-    pub(crate) fn new(alloc: Global) -> Parts
+    pub fn new(alloc: Global) -> Parts
         ensures { (who : Attempt) → holding_at result who ≡ nothing }
     {
         Parts {
@@ -76,14 +107,14 @@ impl Parts {
     }
 
     /// What an attempt has here.
-    pub(crate) fn get(&self, who: Attempt) -> Option<&Part>
+    pub fn get(&self, who: Attempt) -> Option<&Part>
         ensures { holding_in (option_map (λ p. p.now) result) ≡ holding_at self.now who }
     {
         self.parts.get(&who)
     }
 
     /// Notes that the attempt asks for the key with the stamp.
-    pub(crate) fn note(&mut self, who: Attempt, key: Key, stamp: u64) -> Result<(), NoMemory>
+    pub fn note(&mut self, who: Attempt, key: Key, stamp: u64) -> Result<(), NoMemory>
         ensures ok { OnOk result (SetsHolding self.old who (with_key stamp key (holding_at self.old who)) self.new) }
         ensures err { OnErr result (SameHoldings self.old self.new) }
     {
@@ -122,7 +153,7 @@ impl Parts {
 
     /// Keeps the rows that the attempt voted to commit, those that it writes twice. Where it finds no memory, or the attempt
     /// has nothing here, they are handed back.
-    pub(crate) fn promise(
+    pub fn promise(
         &mut self,
         who: Attempt,
         writes: RowList,
@@ -139,7 +170,7 @@ impl Parts {
     }
 
     /// Takes the attempt out.
-    pub(crate) fn take(&mut self, who: Attempt) -> Option<Part>
+    pub fn take(&mut self, who: Attempt) -> Option<Part>
         ensures part { holding_in result ≡ holding_at self.old who }
         ensures rest { SetsHolding self.old who nothing self.new }
     {

@@ -43,12 +43,12 @@ impl Request {
 
 /// The requests for a key, by rising stamp.
 #[derive(Drop)]
-pub struct Line {
+pub(crate) struct Line {
     pub requests: Vec<Request>,
 }
 
 impl Line {
-    pub(crate) fn new(alloc: Global) -> Line
+    pub fn new(alloc: Global) -> Line
         ensures { result.requests.items ≡ [] }
     {
         Line {
@@ -57,7 +57,7 @@ impl Line {
     }
 
     /// Whether an access is granted that writes and has a stamp above `from` and below `stamp`.
-    pub(crate) fn is_stopped(&self, from: u64, stamp: u64) -> bool
+    pub fn is_stopped(&self, from: u64, stamp: u64) -> bool
         ensures { result ≡ is_stopped from stamp self.now.requests.items }
     {
         for request in &self.requests {
@@ -69,7 +69,7 @@ impl Line {
     }
 
     /// The least stamp above `from` of an access that writes, granted or waiting, other than the ended attempt's.
-    pub(crate) fn first_writer(&self, from: u64, ended: Attempt) -> Option<u64>
+    pub fn first_writer(&self, from: u64, ended: Attempt) -> Option<u64>
         ensures { result ≡ first_writer from ended self.now.requests.items }
     {
         for request in &self.requests {
@@ -81,7 +81,7 @@ impl Line {
     }
 
     /// Puts a request in its place by stamp.
-    pub(crate) fn add(&mut self, request: Request) -> Result<(), NoMemory>
+    pub fn add(&mut self, request: Request) -> Result<(), NoMemory>
         ensures ok { OnOk result (self.new.requests.items ≡ put_request request self.old.requests.items) }
         ensures err { OnErr result (self.new.requests.items ≡ self.old.requests.items) }
     {
@@ -94,14 +94,14 @@ impl Line {
     }
 
     /// Takes out an attempt's request.
-    pub(crate) fn end(&mut self, who: Attempt)
+    pub fn end(&mut self, who: Attempt)
         ensures { self.new.requests.items ≡ filter (λ r. not (attempt_eq r.who who)) self.old.requests.items }
     {
         self.requests.retain(|request| request.who != who);
     }
 
     /// Grants an attempt's request.
-    pub(crate) fn wake(&mut self, who: Attempt)
+    pub fn wake(&mut self, who: Attempt)
         ensures { self.new.requests.items ≡ map (grants_to who) self.old.requests.items }
     {
         for place in 0..self.requests.len() {
