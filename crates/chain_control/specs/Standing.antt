@@ -18,6 +18,7 @@ use Rattle.control_core.proofs.Lasts.{appends_in}
 use Rattle.chain_control.specs.declared.requests.Request.{Request}
 use Rattle.chain_control.specs.declared.links.Link.{Link}
 use Rattle.chain_control.specs.declared.table.Table.{Table}
+use Rattle.chain_control.specs.declared.chains.Chains.{Chains}
 use Rattle.chain_control.specs.Chains.{Chain}
 use Rattle.chain_control.specs.Tables.{chain_at}
 use Rattle.chain_control.specs.Holdings.{Holding, holding_at}
@@ -119,3 +120,7 @@ pub record Stands (keep : ℕ) (t : Table) (loaded : Rows) (h : History) : Type 
   pub obeys : Obeys loaded (mvcc keep loaded) h
   pub tracks : Tracks loaded (state_of t) h
   pub keeps : Keeps keep loaded (state_of t) h
+
+-- so do chains for which their table does
+abbrev pub ChainsStand : (keep : ℕ) → Chains keep → Rows → History → Type 0
+ChainsStand keep c loaded h = Stands keep c.table loaded h

@@ -9,7 +9,7 @@ ghost use Rattle.deneva_base.proofs.Mvccs.{stamping};
 ghost use Rattle.deneva_base.proofs.Stamping.{windows_law};
 ghost use Rattle.deneva_base.proofs.StampsServed.{mvcc_waits};
 ghost use Rattle.chain_control.specs.Kept.{kept};
-ghost use Rattle.chain_control.specs.Standing.{Stands};
+ghost use Rattle.chain_control.specs.Standing.{ChainsStand};
 
 use crate::requests::Request;
 use crate::table::Table;
@@ -28,10 +28,10 @@ pub struct Chains<const KEEP: usize> {
 impl<const KEEP: usize> Chains<KEEP> {
     /// How many versions are kept of a key that is loaded here. It takes no memory.
     pub fn kept(&self, key: Key) -> usize
-        requires loaded { (loaded : Rows) × (h : History) × (row : Row) × Stands KEEP self.now.table loaded h × (loaded key ≡ Some row) }
-        ensures kept { (loaded : Rows) (h : History) (row : Row) → Stands KEEP self.now.table loaded h → loaded key ≡ Some row → result ≡ length (kept KEEP loaded h key) }
-        ensures few { (loaded : Rows) (h : History) (row : Row) → Stands KEEP self.now.table loaded h → loaded key ≡ Some row → 1 ≤ KEEP → result ≤ KEEP + length (filter (λ a. key_eq a.key key) (waits h)) }
-        ensures all { (loaded : Rows) (h : History) (row : Row) → Stands KEEP self.now.table loaded h → loaded key ≡ Some row → KEEP ≡ 0 → result ≡ length (versions loaded h key) }
+        requires loaded { (loaded : Rows) × (h : History) × (row : Row) × ChainsStand KEEP self.now loaded h × (loaded key ≡ Some row) }
+        ensures kept { (loaded : Rows) (h : History) (row : Row) → ChainsStand KEEP self.now loaded h → loaded key ≡ Some row → result ≡ length (kept KEEP loaded h key) }
+        ensures few { (loaded : Rows) (h : History) (row : Row) → ChainsStand KEEP self.now loaded h → loaded key ≡ Some row → 1 ≤ KEEP → result ≤ KEEP + length (filter (λ a. key_eq a.key key) (waits h)) }
+        ensures all { (loaded : Rows) (h : History) (row : Row) → ChainsStand KEEP self.now loaded h → loaded key ≡ Some row → KEEP ≡ 0 → result ≡ length (versions loaded h key) }
     {
         self.table.lines.kept(key)
     }
@@ -44,7 +44,7 @@ impl<const KEEP: usize> Control for Chains<KEEP> {
 
     ghost rule = { mvcc KEEP };
 
-    ghost stands = { λ s loaded h. Stands KEEP s.table loaded h };
+    ghost stands = { λ s loaded h. ChainsStand KEEP s loaded h };
 
     const KIND: Protocol = Protocol::Mvcc;
 
