@@ -68,40 +68,35 @@ module _ {C : Type 0} (stands : C → Rows → History → Type 0) (rule : Rows 
     };
   }
 
-  pub ask_stands : (new : C) (from : ℕ) (ms : List Msg) (m : Msg) (who : Attempt) (stamp : ℕ) (key : Key) (mode : Mode) (answer : Answer) → m ≡ Ask who stamp key mode → ((loaded : Rows) (h : History) → stands n.control loaded h → MayAsk loaded h who stamp key → answer ≡ (rule loaded).ask h who stamp key mode) → ((loaded : Rows) (h : History) → stands n.control loaded h → MayAsk loaded h who stamp key → stands new loaded (Asked who stamp key mode answer ∷ h)) → NodeStands stands rule n ms → fits_at from m ms → NodeStands stands rule (with_control new) (m ∷ ms)
-  ask_stands new from ms m who stamp key mode answer is answered after k fits =
-      let m' : Msg = Ask who stamp key mode in
-      let fits' : fits_at from m' ms = subst (λ (x : Msg). fits_at from x ms) is fits in
-      let may : MayAsk (loaded_at s p) (calls s p ms) who stamp key = (suits stands rule n.place n.control from ms m' k.participant fits').3 in
+  pub ask_stands : (new : C) (from : ℕ) (ms : List Msg) (who : Attempt) (stamp : ℕ) (key : Key) (mode : Mode) (answer : Answer) → ((loaded : Rows) (h : History) → stands n.control loaded h → MayAsk loaded h who stamp key → answer ≡ (rule loaded).ask h who stamp key mode) → ((loaded : Rows) (h : History) → stands n.control loaded h → MayAsk loaded h who stamp key → stands new loaded (Asked who stamp key mode answer ∷ h)) → NodeStands stands rule n ms → fits_at from (Ask who stamp key mode) ms → NodeStands stands rule (with_control new) (Ask who stamp key mode ∷ ms)
+  ask_stands new from ms who stamp key mode answer answered after k fits =
+      let m : Msg = Ask who stamp key mode in
+      let may : MayAsk (loaded_at s p) (calls s p ms) who stamp key = (suits stands rule n.place n.control from ms m k.participant fits).3 in
       let same : answer ≡ (rule_at s p).ask (calls s p ms) who stamp key mode = answered _ _ k.participant.calls may ∙ ap (λ (r : Rows → Rule). (r (loaded_at s p)).ask (calls s p ms) who stamp key mode) (sym k.participant.rule_is) in
-      subst (λ (x : Msg). NodeStands stands rule (with_control new) (x ∷ ms)) (sym is)
-      (called new from ms m' k fits' refl (subst (λ (a : Answer). stands new (loaded_at s p) (Asked who stamp key mode a ∷ calls s p ms)) same (after _ _ k.participant.calls may)))
+      called new from ms m k fits refl (subst (λ (a : Answer). stands new (loaded_at s p) (Asked who stamp key mode a ∷ calls s p ms)) same (after _ _ k.participant.calls may))
 
-  pub prepare_stands : (new : C) (from : ℕ) (ms : List Msg) (m : Msg) (who : Attempt) (bound : Bound) (writes appends ws as' : List Keyed) (vote : Vote) → m ≡ Prepare who bound writes appends → ws ≡ writes → as' ≡ appends → ((loaded : Rows) (h : History) → stands n.control loaded h → MayPrepare h who bound ws as' → vote ≡ (rule loaded).vote h who bound ws as') → ((loaded : Rows) (h : History) → stands n.control loaded h → MayPrepare h who bound ws as' → stands new loaded (Prepared who bound ws as' vote ∷ h)) → NodeStands stands rule n ms → fits_at from m ms → NodeStands stands rule (with_control new) (m ∷ ms)
-  prepare_stands new from ms m who bound writes appends ws as' vote is copied copied_too voted after k fits =
-      let m' : Msg = Prepare who bound ws as' in
-      let is' : m ≡ m' = is ∙ ap (λ (l : List Keyed). Prepare who bound l appends) (sym copied) ∙ ap (λ (l : List Keyed). Prepare who bound ws l) (sym copied_too) in
-      let fits' : fits_at from m' ms = subst (λ (x : Msg). fits_at from x ms) is' fits in
-      let may : MayPrepare (calls s p ms) who bound ws as' = (suits stands rule n.place n.control from ms m' k.participant fits').1 in
+  -- the control has copies of the rows
+  pub prepare_stands : (new : C) (from : ℕ) (ms : List Msg) (who : Attempt) (bound : Bound) (writes appends ws as' : List Keyed) (vote : Vote) → ws ≡ writes → as' ≡ appends → ((loaded : Rows) (h : History) → stands n.control loaded h → MayPrepare h who bound ws as' → vote ≡ (rule loaded).vote h who bound ws as') → ((loaded : Rows) (h : History) → stands n.control loaded h → MayPrepare h who bound ws as' → stands new loaded (Prepared who bound ws as' vote ∷ h)) → NodeStands stands rule n ms → fits_at from (Prepare who bound writes appends) ms → NodeStands stands rule (with_control new) (Prepare who bound writes appends ∷ ms)
+  prepare_stands new from ms who bound writes appends ws as' vote copied copied_too voted after k fits =
+      let m : Msg = Prepare who bound ws as' in
+      let is : Prepare who bound writes appends ≡ m = ap (λ (l : List Keyed). Prepare who bound l appends) (sym copied) ∙ ap (λ (l : List Keyed). Prepare who bound ws l) (sym copied_too) in
+      let fits' : fits_at from m ms = subst (λ (x : Msg). fits_at from x ms) is fits in
+      let may : MayPrepare (calls s p ms) who bound ws as' = (suits stands rule n.place n.control from ms m k.participant fits').1 in
       let same : vote ≡ (rule_at s p).vote (calls s p ms) who bound ws as' = voted _ _ k.participant.calls may ∙ ap (λ (r : Rows → Rule). (r (loaded_at s p)).vote (calls s p ms) who bound ws as') (sym k.participant.rule_is) in
-      subst (λ (x : Msg). NodeStands stands rule (with_control new) (x ∷ ms)) (sym is')
-      (called new from ms m' k fits' refl (subst (λ (v : Vote). stands new (loaded_at s p) (Prepared who bound ws as' v ∷ calls s p ms)) same (after _ _ k.participant.calls may)))
-
-  pub commit_stands : (new : C) (from : ℕ) (ms : List Msg) (m : Msg) (who : Attempt) (number : Number) → m ≡ Commit who number → ((loaded : Rows) (h : History) → stands n.control loaded h → MayCommit h who number → stands new loaded (Committed who number ((rule loaded).commit h who number) ∷ h)) → NodeStands stands rule n ms → fits_at from m ms → NodeStands stands rule (with_control new) (m ∷ ms)
-  commit_stands new from ms m who number is after k fits =
-      let m' : Msg = Commit who number in
-      let fits' : fits_at from m' ms = subst (λ (x : Msg). fits_at from x ms) is fits in
-      let may : MayCommit (calls s p ms) who number = (suits stands rule n.place n.control from ms m' k.participant fits').1 in
       subst (λ (x : Msg). NodeStands stands rule (with_control new) (x ∷ ms)) (sym is)
-      (called new from ms m' k fits' refl (subst (λ (r : Rows → Rule). stands new (loaded_at s p) (Committed who number ((r (loaded_at s p)).commit (calls s p ms) who number) ∷ calls s p ms)) (sym k.participant.rule_is) (after _ _ k.participant.calls may)))
+      (called new from ms m k fits' refl (subst (λ (v : Vote). stands new (loaded_at s p) (Prepared who bound ws as' v ∷ calls s p ms)) same (after _ _ k.participant.calls may)))
 
-  pub abort_stands : (new : C) (from : ℕ) (ms : List Msg) (m : Msg) (who : Attempt) → m ≡ Abort who → ((loaded : Rows) (h : History) → stands n.control loaded h → MayAbort h who → stands new loaded (Aborted who ((rule loaded).abort h who) ∷ h)) → NodeStands stands rule n ms → fits_at from m ms → NodeStands stands rule (with_control new) (m ∷ ms)
-  abort_stands new from ms m who is after k fits =
-      let m' : Msg = Abort who in
-      let fits' : fits_at from m' ms = subst (λ (x : Msg). fits_at from x ms) is fits in
-      let may : MayAbort (calls s p ms) who = (suits stands rule n.place n.control from ms m' k.participant fits').1 in
-      subst (λ (x : Msg). NodeStands stands rule (with_control new) (x ∷ ms)) (sym is)
-      (called new from ms m' k fits' refl (subst (λ (r : Rows → Rule). stands new (loaded_at s p) (Aborted who ((r (loaded_at s p)).abort (calls s p ms) who) ∷ calls s p ms)) (sym k.participant.rule_is) (after _ _ k.participant.calls may)))
+  pub commit_stands : (new : C) (from : ℕ) (ms : List Msg) (who : Attempt) (number : Number) → ((loaded : Rows) (h : History) → stands n.control loaded h → MayCommit h who number → stands new loaded (Committed who number ((rule loaded).commit h who number) ∷ h)) → NodeStands stands rule n ms → fits_at from (Commit who number) ms → NodeStands stands rule (with_control new) (Commit who number ∷ ms)
+  commit_stands new from ms who number after k fits =
+      let m : Msg = Commit who number in
+      let may : MayCommit (calls s p ms) who number = (suits stands rule n.place n.control from ms m k.participant fits).1 in
+      called new from ms m k fits refl (subst (λ (r : Rows → Rule). stands new (loaded_at s p) (Committed who number ((r (loaded_at s p)).commit (calls s p ms) who number) ∷ calls s p ms)) (sym k.participant.rule_is) (after _ _ k.participant.calls may))
+
+  pub abort_stands : (new : C) (from : ℕ) (ms : List Msg) (who : Attempt) → ((loaded : Rows) (h : History) → stands n.control loaded h → MayAbort h who → stands new loaded (Aborted who ((rule loaded).abort h who) ∷ h)) → NodeStands stands rule n ms → fits_at from (Abort who) ms → NodeStands stands rule (with_control new) (Abort who ∷ ms)
+  abort_stands new from ms who after k fits =
+      let m : Msg = Abort who in
+      let may : MayAbort (calls s p ms) who = (suits stands rule n.place n.control from ms m k.participant fits).1 in
+      called new from ms m k fits refl (subst (λ (r : Rows → Rule). stands new (loaded_at s p) (Aborted who ((r (loaded_at s p)).abort (calls s p ms) who) ∷ calls s p ms)) (sym k.participant.rule_is) (after _ _ k.participant.calls may))
 
   same_calls : (r : Rule) (h : History) (m : Msg) → is_call m ≡ false → h ≡ call_of r h m
   same_calls r h (Ask who stamp key mode) e = absurd (true≢false e)

@@ -3,6 +3,7 @@
 
 mod loading;
 mod node;
+mod participant;
 mod place;
 mod threads;
 

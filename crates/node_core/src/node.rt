@@ -5,10 +5,11 @@ ghost use Rattle.node_core.specs.Places.{role_at};
 ghost use Rattle.node_core.specs.Standing.{NodeStands};
 
 use crate::loading::store_of;
+use crate::participant::Participant;
 use crate::place::Place;
 use control_core::Chosen;
 use coord::Coord;
-use deneva_base::{Config, NoMemory, Protocol, RowList, Woken};
+use deneva_base::{Attempt, Bound, Config, Key, Mode, NoMemory, Number, Protocol, RowList, Woken};
 use server_core::{Handles, Msg, Outbox, Server};
 use std::alloc::Global;
 use txn_program::Workload;
@@ -22,6 +23,69 @@ pub struct Node<'w, C: Chosen> {
     control: C,
 }
 
+impl<'w, C: Chosen> Participant for Node<'w, C> {
+    ghost role = { λ n. role_at n.place };
+
+    ghost stands = { λ n ms. NodeStands C.stands C.rule n ms };
+
+    fn hear_ask(
+        &mut self,
+        who: Attempt,
+        stamp: u64,
+        key: Key,
+        mode: Mode,
+        out: &mut Outbox,
+    ) -> Result<(), NoMemory> {
+        out.reserve(1)?;
+        let answer = self.control.ask(who, stamp, key, mode)?;
+        self.place.tell_answer(who, key, answer, out);
+        Ok(())
+    }
+
+    fn hear_prepare(
+        &mut self,
+        who: Attempt,
+        bound: Bound,
+        writes: &RowList,
+        appends: &RowList,
+        out: &mut Outbox,
+    ) -> Result<(), NoMemory> {
+        out.reserve(1)?;
+        let writes = writes.copy(self.alloc)?;
+        let appends = appends.copy(self.alloc)?;
+        let Ok(vote) = self.control.prepare(who, bound, writes, appends) else {
+            return Err(NoMemory);
+        };
+        self.place.tell_vote(who, vote, out);
+        Ok(())
+    }
+
+    fn hear_commit(
+        &mut self,
+        who: Attempt,
+        number: Number,
+        out: &mut Outbox,
+    ) -> Result<(), NoMemory> {
+        out.reserve(self.control.waiting() + 1)?;
+        let mut woken = Woken::new(self.alloc);
+        self.control.commit(who, number, &mut woken)?;
+        let part = self.place.part;
+        let done = Msg::Done { who, part };
+        self.place.tell_end(who, done, woken, out);
+        Ok(())
+    }
+
+    fn hear_abort(&mut self, who: Attempt, out: &mut Outbox) -> Result<(), NoMemory> {
+        out.reserve(self.control.waiting() + 1)?;
+        let mut woken = Woken::new(self.alloc);
+        self.control.abort(who, &mut woken)?;
+        let part = self.place.part;
+        let undone = Msg::Undone { who, part };
+        self.place.tell_end(who, undone, woken, out);
+        Ok(())
+    }
+}
+
 impl<'w, C: Chosen> Handles for Node<'w, C> {
     ghost role = { λ n. role_at n.place };
 
@@ -29,52 +93,22 @@ impl<'w, C: Chosen> Handles for Node<'w, C> {
 
     ghost stands = { λ n ms. NodeStands C.stands C.rule n ms };
 
-    /// A participant's message is one call of the control, and the room for what is told comes before it.
     fn handle(&mut self, _from: u8, msg: &Msg, out: &mut Outbox) -> Result<(), NoMemory> {
-        let part = self.place.part;
         match msg {
             Msg::Ask {
                 who,
                 stamp,
                 key,
                 mode,
-            } => {
-                out.reserve(1)?;
-                let answer = self.control.ask(*who, *stamp, *key, *mode)?;
-                self.place.tell_answer(*who, *key, answer, out);
-                Ok(())
-            }
+            } => self.hear_ask(*who, *stamp, *key, *mode, out),
             Msg::Prepare {
                 who,
                 bound,
                 writes,
                 appends,
-            } => {
-                out.reserve(1)?;
-                let writes = writes.copy(self.alloc)?;
-                let appends = appends.copy(self.alloc)?;
-                let Ok(vote) = self.control.prepare(*who, *bound, writes, appends) else {
-                    return Err(NoMemory);
-                };
-                self.place.tell_vote(*who, vote, out);
-                Ok(())
-            }
-            Msg::Commit { who, number } => {
-                out.reserve(self.control.waiting() + 1)?;
-                let mut woken = Woken::new(self.alloc);
-                self.control.commit(*who, *number, &mut woken)?;
-                let done = Msg::Done { who: *who, part };
-                self.place.tell_end(*who, done, woken, out);
-                Ok(())
-            }
-            Msg::Abort { who } => {
-                out.reserve(self.control.waiting() + 1)?;
-                let mut woken = Woken::new(self.alloc);
-                self.control.abort(*who, &mut woken)?;
-                let undone = Msg::Undone { who: *who, part };
-                self.place.tell_end(*who, undone, woken, out);
-                Ok(())
-            }
+            } => self.hear_prepare(*who, *bound, writes, appends, out),
+            Msg::Commit { who, number } => self.hear_commit(*who, *number, out),
+            Msg::Abort { who } => self.hear_abort(*who, out),
             _ => self.coord.step(msg, out),
         }
     }
