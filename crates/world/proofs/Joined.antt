@@ -153,3 +153,31 @@ pub append_cases : {A P : Type 0} (xs ys : List A) (i : ℕ) (x : A) → slice_g
 append_cases [] ys i x e left right = right i e
 append_cases (y ∷ xs) ys zero x e left right = left e
 append_cases (y ∷ xs) ys (suc i) x e left right = append_cases xs ys i x e left right
+
+-- a chunk takes the items of the next one, which goes
+pub join_next : {A : Type 0} (chunks : List (List A)) (i j : ℕ) (a b : List A) → j ≡ suc i → slice_get (slice_set chunks j []) i ≡ Some a → slice_get chunks j ≡ Some b → joined (remove (slice_set (slice_set chunks j []) i (a ++ b)) j) ≡ joined chunks
+join_next {A = A} chunks i j a b is at next = rw is (go chunks i (subst (λ n. slice_get (slice_set chunks n []) i ≡ Some a) is at) (subst (λ n. slice_get chunks n ≡ Some b) is next))
+  where
+    go : (xs : List (List A)) (i : ℕ) → slice_get (slice_set xs (suc i) []) i ≡ Some a → slice_get xs (suc i) ≡ Some b → joined (remove (slice_set (slice_set xs (suc i) []) i (a ++ b)) (suc i)) ≡ joined xs
+    go [] zero e f = cc
+    go [] (suc i) e f = cc
+    go (x ∷ []) zero e f = cc (f)
+    go (x ∷ y ∷ rest) zero e f =
+        let first : x ≡ a = cc in
+        let second : y ≡ b = cc in
+        append_assoc a b (joined rest) ∙ ap (λ l. l ++ (b ++ joined rest)) (sym first) ∙ ap (λ l. x ++ (l ++ joined rest)) (sym second)
+    go (x ∷ rest) (suc i) e f = ap (λ l. x ++ l) (go rest i e f)
+
+-- both stay as they were
+pub join_undone : {A : Type 0} (chunks : List (List A)) (i j : ℕ) (a b e : List A) → j ≡ suc i → slice_get (slice_set chunks j e) i ≡ Some a → slice_get chunks j ≡ Some b → slice_set (slice_set (slice_set chunks j e) i a) j b ≡ chunks
+join_undone {A = A} chunks i j a b e is at next = rw is (go chunks i (subst (λ n. slice_get (slice_set chunks n e) i ≡ Some a) is at) (subst (λ n. slice_get chunks n ≡ Some b) is next))
+  where
+    go : (xs : List (List A)) (i : ℕ) → slice_get (slice_set xs (suc i) e) i ≡ Some a → slice_get xs (suc i) ≡ Some b → slice_set (slice_set (slice_set xs (suc i) e) i a) (suc i) b ≡ xs
+    go [] zero e f = refl
+    go [] (suc i) e f = refl
+    go (x ∷ []) zero e f = cc (f)
+    go (x ∷ y ∷ rest) zero e f =
+        let first : x ≡ a = cc in
+        let second : y ≡ b = cc in
+        ap (λ l. l ∷ b ∷ rest) (sym first) ∙ ap (λ l. x ∷ l ∷ rest) (sym second)
+    go (x ∷ rest) (suc i) e f = ap (λ l. x ∷ l) (go rest i e f)

@@ -11,9 +11,13 @@ use server_core::{Entry, Mail};
 use std::alloc::Global;
 use std::collections::VecDeque;
 use std::marker::Model;
+use std::mem;
 
 /// How many items a chunk has at most.
 const CHUNK: usize = 512;
+
+/// So few items of two chunks go into one.
+const FEW: usize = 256;
 
 /// How many items a line has at most: more than a memory has room for.
 const MOST: usize = 1 << 62;
@@ -86,7 +90,18 @@ impl<T> Chunk<T> {
     }
 }
 
+impl<T: Drop> Chunk<T> {
+    /// Moves the items of another chunk to the end.
+    fn append(&mut self, next: &mut Chunk<T>) -> Result<(), NoMemory>
+        ensures ok { OnOk result ((self.new ≡ self.old ++ next.old) × (next.new ≡ [])) }
+        ensures err { OnErr result ((self.new ≡ self.old) × (next.new ≡ next.old)) }
+    {
+        Ok(self.items.append(&mut next.items)?)
+    }
+}
+
 /// The chunk that the item at `index` of all lies in, and its place there.
+#[inline(never)]
 fn find<T>(chunks: &VecDeque<Chunk<T>>, index: usize) -> (usize, usize)
     requires { index < length (joined chunks.now.items) }
     ensures { LiesAt chunks.now.items index result.0 result.1 }
@@ -175,7 +190,7 @@ impl<T: Drop> Flight<T> {
         ensures item { slice_get self.old index ≡ Some result }
         ensures left { self.new ≡ remove self.old index }
     {
-        let item = take_at(&mut self.chunks, index);
+        let item = take_at(self.alloc, &mut self.chunks, index);
         self.len -= 1;
         item
     }
@@ -213,8 +228,8 @@ fn push_last<T>(
     }
 }
 
-/// Takes out the item at `index` of all, and its chunk where none is left in it.
-fn take_at<T: Drop>(chunks: &mut VecDeque<Chunk<T>>, index: usize) -> T
+/// Takes out the item at `index` of all. Chunks with few items are joined, so that half of all places are taken.
+fn take_at<T: Drop>(alloc: Global, chunks: &mut VecDeque<Chunk<T>>, index: usize) -> T
     requires { index < length (joined chunks.old.items) }
     ensures item { slice_get (joined chunks.old.items) index ≡ Some result }
     ensures left { joined chunks.new.items ≡ remove (joined chunks.old.items) index }
@@ -222,17 +237,26 @@ fn take_at<T: Drop>(chunks: &mut VecDeque<Chunk<T>>, index: usize) -> T
     let (number, place) = find(chunks, index);
     let chunk = &mut chunks[number];
     let item = chunk.take(place);
-    close_if_empty(chunks, number);
+    join_few(alloc, chunks, number);
+    join_few(alloc, chunks, number.saturating_sub(1));
     item
 }
 
-/// Takes out a chunk that has no items.
-fn close_if_empty<T: Drop>(chunks: &mut VecDeque<Chunk<T>>, number: usize)
-    requires { number < length chunks.old.items }
+/// Puts the items of the next chunk into this one, where both have few.
+fn join_few<T: Drop>(alloc: Global, chunks: &mut VecDeque<Chunk<T>>, number: usize)
     ensures { joined chunks.new.items ≡ joined chunks.old.items }
 {
-    if chunks[number].len() == 0 {
-        drop(chunks.remove(number));
+    if chunks.len() < 2 || number > chunks.len() - 2 {
+        return;
+    }
+    let (here, there) = (chunks[number].len(), chunks[number + 1].len());
+    if here > FEW || there > FEW - here {
+        return;
+    }
+    let mut next = mem::replace(&mut chunks[number + 1], Chunk::new(alloc));
+    match chunks[number].append(&mut next) {
+        Ok(()) => drop(chunks.remove(number + 1)),
+        Err(_) => chunks[number + 1] = next,
     }
 }
 

@@ -17,5 +17,5 @@ returns-clause-left g c =
     let chunks = c.args.chunks.now.items in
     let lies = c.find-number.ensures in
     let here = slice_get_read chunks (length chunks) c.find-number.result.0 c.index_mut-chunk.result.now refl lies.chunk_in c.index_mut-chunk.ensures.value in
-    c.close_if_empty.ensures ∙ ap (λ d. joined (slice_set chunks c.find-number.result.0 d)) c.take-item.ensures.left
+    c.join_few-2.ensures ∙ c.join_few.ensures ∙ ap (λ d. joined (slice_set chunks c.find-number.result.0 d)) c.take-item.ensures.left
     ∙ removed_at chunks c.args.index c.find-number.result.0 c.find-number.result.1 lies c.index_mut-chunk.result.now here
