@@ -10,6 +10,7 @@ use Rattle.deneva_base.specs.declared.numbers.TxnId.{TxnId}
 use Rattle.deneva_base.specs.Keys.{id_eq}
 use Rattle.deneva_base.specs.Lists.{IsIn}
 use Rattle.deneva_base.specs.Rows.{Row}
+use Rattle.txn_program.specs.Placed.{ArePlaced}
 use Rattle.txn_program.specs.Serial.{all_ids}
 use Rattle.server_core.specs.Coordinator.{coordinator, mail_start, next_start, overs}
 use Rattle.server_core.specs.Replies.{Reply, Ballot}
@@ -26,7 +27,6 @@ use Rattle.coord.specs.declared.coord.Coord.{Coord}
 use Rattle.coord.specs.Attempts.{setting_at}
 use Rattle.coord.specs.Moves.{Moved, stamp_for, started_by, counted_by}
 use Rattle.coord.specs.Open.{state_at}
-use Rattle.coord.specs.Placed.{ArePlaced}
 use Rattle.coord.specs.Standing.{role_of, Stands, Coordinates}
 use Rattle.coord.specs.States as states
 use Rattle.coord.specs.States.{State, first_ask, granted_mails, refused_mails, voted_mails, if_none_left, undone_mails, risen, without}

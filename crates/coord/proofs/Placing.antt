@@ -1,32 +1,23 @@
--- Every key of a transaction has a partition.
-use Rattle.std.proofs.Common.{ℕ, zero, suc, ◌≡◌, take, ap, List, [], ◌∷◌, map, refl, inl, arith}
+-- Every key that a transaction writes has a partition, and so has each of its first accesses.
+use Rattle.std.proofs.Common.{ℕ, zero, suc, ◌≡◌, take, ap, List, [], ◌∷◌, refl, arith}
 use Rattle.std.specs.List.{All, cons_option, filter_map}
 use Rattle.std.proofs.lemmas.List.Elements.{All-cons}
 use Rattle.deneva_base.specs.declared.keys.Access.{Access}
 use Rattle.deneva_base.specs.declared.numbers.TxnId.{TxnId}
 use Rattle.deneva_base.specs.declared.rows.Keyed.{Keyed}
-use Rattle.txn_program.specs.Transactions.{accesses, access_of, effect, written, written_to, ycsb_key}
+use Rattle.txn_program.specs.Placed.{IsPlaced, ArePlaced, RowsArePlaced}
+use Rattle.txn_program.specs.Transactions.{effect, written, written_to, ycsb_key}
 use Rattle.txn_program.specs.declared.programs.Load.{Load}
 use Rattle.txn_program.specs.declared.programs.Program.{Program}
 use Rattle.txn_program.specs.declared.programs.Program.TheVariants.{Ycsb}
 use Rattle.txn_program.specs.declared.programs.YcsbAct.{YcsbAct}
 use Rattle.txn_program.specs.declared.programs.YcsbAct.TheVariants.{Read, Update, Put}
 use Rattle.txn_program.specs.declared.programs.YcsbStep.{YcsbStep}
+use Rattle.txn_program.proofs.Placing.{ycsb_placed}
 use Rattle.server_core.specs.Setting.{take_first}
-use Rattle.coord.specs.Placed.{IsPlaced, ArePlaced, RowsArePlaced}
 
 no_more : {A : Type 0} (P : A → Type 0) → All P []
 no_more P k d less = absurd (omega (arith, less))
-
-ycsb_placed : (n : ℕ) → IsPlaced (ycsb_key n)
-ycsb_placed n = (omega arith, inl refl)
-
-pub accesses_placed : (load : Load) (program : Program) → ArePlaced (accesses load program)
-accesses_placed load (Ycsb steps) = go steps
-  where
-    go : (steps : List YcsbStep) → ArePlaced (map access_of steps)
-    go [] = no_more (λ (a : Access). IsPlaced a.key)
-    go (s ∷ more) = All-cons (λ (a : Access). IsPlaced a.key) (access_of s) (map access_of more) (ycsb_placed s.key) (go more)
 
 pub writes_placed : (load : Load) (id : TxnId) (program : Program) (rows : List Keyed) → RowsArePlaced (effect load id program rows).writes
 writes_placed load id (Ycsb steps) rows = go steps

@@ -10,7 +10,9 @@ use Rattle.deneva_base.specs.declared.numbers.Attempt.{Attempt}
 use Rattle.deneva_base.specs.declared.numbers.TxnId.{TxnId}
 use Rattle.deneva_base.specs.Keys.{id_eq}
 use Rattle.deneva_base.specs.Protocols.{chosen}
+use Rattle.txn_program.specs.Placed.{ArePlaced}
 use Rattle.txn_program.specs.Serial.{program_of}
+use Rattle.txn_program.proofs.Placing.{accesses_placed}
 use Rattle.server_core.specs.Configs.{IsVoting}
 use Rattle.server_core.specs.Coordinator.{coordinator, overs, told}
 use Rattle.server_core.specs.Fits.{FitsBy, suits_under}
@@ -30,11 +32,9 @@ use Rattle.coord.specs.Attempts.{setting_at}
 use Rattle.coord.specs.Following.{turns_of, IsCurrent, Follows}
 use Rattle.coord.specs.Moves.{Moved}
 use Rattle.coord.specs.Open.{state_at}
-use Rattle.coord.specs.Placed.{ArePlaced}
 use Rattle.coord.specs.Standing.{Stands, Coordinates}
 use Rattle.coord.specs.States.{State, begun, kept_stamp, first_ask, ask_first}
 use Rattle.coord.proofs.Opens.{id_tells}
-use Rattle.coord.proofs.Placing.{accesses_placed}
 use Rattle.coord.proofs.Starting.{start_follows, start_says, drawn, kept}
 use Rattle.coord.proofs.Turns.{touches, follows_other}
 

@@ -2,24 +2,24 @@
 ghost use Rattle.std.specs.Prelude.{◌≡◌, ◌++◌, ◌<◌, ◌≤◌, ◌^◌, ◌+◌, length, slice_get, OnOk, OnErr, None, eqb};
 ghost use Rattle.std.specs.List.{list_all};
 ghost use Rattle.deneva_base.specs.Lists.{IsIn};
+ghost use Rattle.txn_program.specs.Placed.{ArePlaced};
 ghost use Rattle.txn_program.specs.Serial.{all_ids};
 ghost use Rattle.server_core.specs.Replies.{Reply};
 ghost use Rattle.coord.specs.Attempts.{state_of, setting_at};
 ghost use Rattle.coord.specs.Ballots.{ballot_of};
-ghost use Rattle.coord.specs.Placed.{ArePlaced};
 ghost use Rattle.coord.specs.States as states;
 ghost use Rattle.coord.specs.States.{State, begun, taken, going_on, next_mails, granted_mails, refused_mails, decision_mails, voted_mails, with_left, without};
 
 use crate::ballots::{Ballot, Decision, decide};
 use crate::home::Home;
-use crate::partitions::{parts_of, program_at};
+use crate::partitions::program_at;
 use crate::replies::{greater_bound, take_out};
 use crate::saying::{Ending, say_ask, say_prepares, say_to_all};
 use deneva_base::{Access, AccessList, Attempt, Bound, Key, Keyed, NoMemory, Number, Row, RowList};
 use server_core::Outbox;
 use std::alloc::Global;
 use std::mem;
-use txn_program::effect_of;
+use txn_program::{effect_of, parts_of};
 
 /// The bound before the first grant.
 const NO_BOUND: Bound = Bound {
@@ -116,9 +116,9 @@ impl Attempting {
             who,
             self.bound,
             &effect,
-            &parts,
+            parts.as_slice(),
         )?;
-        self.left = parts;
+        self.left = parts.into_vec();
         Ok(())
     }
 
@@ -181,8 +181,8 @@ impl Attempting {
     {
         let asked = &self.accesses.as_slice()[..self.granted + 1];
         let parts = parts_of(home.alloc, home.config.parts, asked)?;
-        say_to_all(out, home.part, who, Ending::Abort, &parts)?;
-        self.left = parts;
+        say_to_all(out, home.part, who, Ending::Abort, parts.as_slice())?;
+        self.left = parts.into_vec();
         Ok(())
     }
 
@@ -200,8 +200,8 @@ impl Attempting {
             Decision::Abort => Ending::Abort,
         };
         let parts = parts_of(home.alloc, home.config.parts, self.accesses.as_slice())?;
-        say_to_all(out, home.part, who, ending, &parts)?;
-        self.left = parts;
+        say_to_all(out, home.part, who, ending, parts.as_slice())?;
+        self.left = parts.into_vec();
         Ok(())
     }
 

@@ -1,6 +1,7 @@
 //! The coordinator of a node's home transactions.
 ghost use Rattle.std.specs.Prelude.{◌≡◌, ◌++◌, ◌∷◌, [], ◌<◌, ◌≤◌, ◌^◌, ℕ, List, not, cond, ltb, length, slice_get, IfOk, OnOk, OnErr, Some, None, true, ◌+◌};
 ghost use Rattle.deneva_base.specs.Lists.{IsIn};
+ghost use Rattle.txn_program.specs.Placed.{ArePlaced};
 ghost use Rattle.txn_program.specs.Serial.{all_ids};
 ghost use Rattle.txn_program.specs.Valid.{IsValid};
 ghost use Rattle.server_core.specs.Configs.{IsConfig, IsVoting};
@@ -13,7 +14,6 @@ ghost use Rattle.server_core.specs.declared.messages.Msg as messages;
 ghost use Rattle.coord.specs.Attempts.{setting_at};
 ghost use Rattle.coord.specs.Moves.{Moved, Same, draws, stamp_for, started_by, counted_by};
 ghost use Rattle.coord.specs.Open.{state_at, WithState};
-ghost use Rattle.coord.specs.Placed.{ArePlaced};
 ghost use Rattle.coord.specs.Standing.{role_of, Coordinates};
 ghost use Rattle.coord.specs.States as states;
 ghost use Rattle.coord.specs.States.{if_none_left, undone_mails, refused_mails, risen, without};

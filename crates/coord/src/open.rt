@@ -3,11 +3,11 @@ ghost use Rattle.std.specs.Prelude.{◌≡◌, ◌<◌, ◌++◌, eqb, length, S
 ghost use Rattle.std.specs.List.{list_all};
 ghost use Rattle.deneva_base.specs.Lists.{IsIn};
 ghost use Rattle.deneva_base.specs.declared.numbers.TxnId as ids;
+ghost use Rattle.txn_program.specs.Placed.{ArePlaced};
 ghost use Rattle.txn_program.specs.Serial.{all_ids};
 ghost use Rattle.coord.specs.Attempts.{state_of, setting_at};
 ghost use Rattle.coord.specs.Ballots.{ballot_of};
 ghost use Rattle.coord.specs.Open.{state_at, SetsState, SameStates, WithState};
-ghost use Rattle.coord.specs.Placed.{ArePlaced};
 ghost use Rattle.coord.specs.States as states;
 ghost use Rattle.coord.specs.States.{State, kept_stamp, granted_mails, refused_mails, voted_mails, with_left, without};
 

@@ -1,11 +1,11 @@
 //! What a coordinator says: all of it, or nothing where there is no memory.
 ghost use Rattle.std.specs.Prelude.{◌≡◌, ◌≤◌, ◌++◌, ◌∷◌, [], map, IfOk, OnOk, OnErr};
+ghost use Rattle.txn_program.specs.Placed.{IsPlaced, RowsArePlaced};
 ghost use Rattle.server_core.specs.Coordinator.{ask_of, at_part, prepare_to, to_all};
 ghost use Rattle.server_core.specs.Effects.{lasting};
 ghost use Rattle.server_core.specs.Setting.{Setting};
 ghost use Rattle.server_core.specs.declared.messages.Msg.TheVariants.{Start};
 ghost use Rattle.coord.specs.Endings.{message_of_ending};
-ghost use Rattle.coord.specs.Placed.{IsPlaced, RowsArePlaced};
 ghost use Rattle.coord.specs.Prepares.{prepare_at};
 
 use deneva_base::{Access, Attempt, Bound, Copied, NoMemory, Number, RowList, part_of};

@@ -1,9 +1,9 @@
 -- A transaction as a function: its accesses, its effect on the rows that it reads, and its partitions.
-use Rattle.std.specs.Prelude.{ℕ, zero, suc, ◌==◌, pos, List, [], ◌∷◌, ◌++◌, map, slice_set, Option, Some, None}
+use Rattle.std.specs.Prelude.{ℕ, zero, suc, ◌==◌, eqb, pos, List, [], ◌∷◌, ◌++◌, map, slice_set, Option, Some, None, option_map}
 use Rattle.std.specs.List.{list_any, filter, filter_map}
 use Rattle.deneva_base.specs.Modes.{reads}
 use Rattle.deneva_base.specs.Partitions.{partition_of}
-use Rattle.deneva_base.specs.Rows.{row_at}
+use Rattle.deneva_base.specs.Rows.{row_at, row_or_empty}
 use Rattle.deneva_base.specs.declared.keys.Key.{Key}
 use Rattle.deneva_base.specs.declared.keys.Mode as modes
 use Rattle.deneva_base.specs.declared.keys.Mode.TheVariants as mode
@@ -19,6 +19,7 @@ use Rattle.txn_program.specs.declared.programs.Program.TheVariants.{Ycsb}
 use Rattle.txn_program.specs.declared.programs.Load.{Load}
 use Rattle.txn_program.specs.declared.effects.Verdict.TheVariants.{Commit}
 use Rattle.txn_program.specs.declared.effects.Effect.{Effect}
+use Rattle.txn_program.specs.declared.effects.ReadRow.{ReadRow}
 
 -- the key of a YCSB row
 abbrev pub ycsb_key : ℕ → Key
@@ -40,6 +41,10 @@ accesses load (Ycsb steps) = map access_of steps
 abbrev pub reading : List Access → List Access
 reading list = filter (λ a. reads a.mode) list
 
+-- a row as it is read: one without cells where the key is absent
+abbrev pub as_read : ReadRow → Keyed
+as_read r = record { key = r.key; row = row_or_empty (option_map (λ c. c.now) r.row) }
+
 -- what is written to a key, where the transaction reads these rows: an Update its row with one field replaced, a Put its own
 abbrev pub written_to : List Keyed → Key → YcsbAct → Option Keyed
 written_to rows key Read = None
@@ -52,6 +57,16 @@ written rows step = written_to rows (ycsb_key step.key) step.act
 -- what a transaction makes of the rows of its accesses that read
 abbrev pub effect : Load → TxnId → Program → List Keyed → Effect
 effect load id (Ycsb steps) rows = record { verdict = Commit; writes = filter_map (written rows) steps; appends = []; answer = pos 0 }
+
+-- what of an effect lies at a partition
+abbrev pub effect_at : ℕ → ℕ → Effect → Effect
+effect_at parts p e =
+    record {
+      verdict = e.verdict;
+      writes = filter (λ r. eqb (partition_of r.key parts) p) e.writes;
+      appends = filter (λ r. eqb (partition_of r.key parts) p) e.appends;
+      answer = e.answer;
+    }
 
 abbrev pub first_key : List Access → Key
 first_key [] = ycsb_key 0

@@ -1,13 +1,15 @@
 //! What a transaction makes of the rows that it reads.
-ghost use Rattle.std.specs.Prelude.{◌≡◌, IfOk, List, slice_set};
+ghost use Rattle.std.specs.Prelude.{◌≡◌, ◌≤◌, IfOk, List, map, slice_set, filter, eqb};
 ghost use Rattle.std.specs.List.{filter_map};
+ghost use Rattle.deneva_base.specs.Partitions.{partition_of};
 ghost use Rattle.deneva_base.specs.Rows.{row_at};
 ghost use Rattle.deneva_base.specs.declared.rows.Cell.TheVariants.{Text};
-ghost use Rattle.txn_program.specs.Transactions.{effect, written};
+ghost use Rattle.deneva_base.specs.declared.rows.Keyed as keyed;
+ghost use Rattle.txn_program.specs.Transactions.{as_read, effect, effect_at, written, ycsb_key};
 
 use crate::accesses::ycsb_key_of;
 use crate::programs::{Load, Program, YcsbAct, YcsbPut, YcsbStep};
-use deneva_base::{ByteList, Cell, CellList, Key, Keyed, NoMemory, Row, RowList, TxnId};
+use deneva_base::{ByteList, Cell, CellList, Key, Keyed, NoMemory, Row, RowList, TxnId, part_of};
 use std::alloc::Global;
 
 /// Why a transaction rolled itself back.
@@ -35,6 +37,13 @@ pub struct Effect {
     pub answer: i64,
 }
 
+/// A row that a transaction reads, where it lies: none where the key is absent.
+#[derive(Clone, Copy, Debug)]
+pub struct ReadRow<'r> {
+    pub key: Key,
+    pub row: Option<&'r Row>,
+}
+
 /// The cells of the row of a key, or none where the key is absent.
 fn cells_of(rows: &[Keyed], key: Key) -> &[Cell]
     ensures { result.now ≡ row_at rows.now key }
@@ -42,6 +51,20 @@ fn cells_of(rows: &[Keyed], key: Key) -> &[Cell]
     for keyed in rows {
         if keyed.key == key {
             return keyed.row.as_slice();
+        }
+    }
+    &[]
+}
+
+fn cells_read<'r>(rows: &[ReadRow<'r>], key: Key) -> &'r [Cell]
+    ensures { result.now ≡ row_at (map as_read rows.now) key }
+{
+    for read in rows {
+        if read.key == key {
+            return match read.row {
+                Some(row) => row.as_slice(),
+                None => &[],
+            };
         }
     }
     &[]
@@ -58,19 +81,16 @@ fn with_text(alloc: Global, cells: &[Cell], field: u8, text: ByteList) -> Result
     Ok(CellList::of(new))
 }
 
-/// What a step writes, where the transaction reads these rows.
-fn write_of(alloc: Global, rows: &[Keyed], step: &YcsbStep) -> Result<Option<Keyed>, NoMemory>
-    ensures { IfOk result (λ write. write ≡ written rows.now step.now) }
+/// What a step writes, where its row has these cells.
+fn write_of(alloc: Global, cells: &[Cell], step: &YcsbStep) -> Result<Option<Keyed>, NoMemory>
+    ensures { IfOk result (λ write. (rows : List keyed.Keyed) → cells.now ≡ row_at rows (ycsb_key step.now.key) → write ≡ written rows step.now) }
 {
     let key = ycsb_key_of(step.key);
     let row = match &step.act {
         YcsbAct::Read => return Ok(None),
         YcsbAct::Update(put) => {
             let text = put.text.copy(alloc)?;
-            Row::of(
-                alloc,
-                with_text(alloc, cells_of(rows, key), put.field, text)?,
-            )?
+            Row::of(alloc, with_text(alloc, cells, put.field, text)?)?
         }
         YcsbAct::Put(row) => row.share()?,
     };
@@ -82,8 +102,32 @@ fn ycsb_writes(alloc: Global, rows: &[Keyed], steps: &[YcsbStep]) -> Result<RowL
 {
     let mut writes = RowList::new(alloc);
     for step in steps {
-        if let Some(write) = write_of(alloc, rows, step)? {
+        let cells = cells_of(rows, ycsb_key_of(step.key));
+        if let Some(write) = write_of(alloc, cells, step)? {
             writes.push(write)?;
+        }
+    }
+    Ok(writes)
+}
+
+/// Those of the writes whose keys lie at the partition.
+fn ycsb_writes_at(
+    alloc: Global,
+    rows: &[ReadRow<'_>],
+    steps: &[YcsbStep],
+    parts: u8,
+    part: u8,
+) -> Result<RowList, NoMemory>
+    requires parts { 1 ≤ parts }
+    ensures { IfOk result (λ writes. writes ≡ filter (λ r. eqb (partition_of r.key parts) part) (filter_map (written (map as_read rows.now)) steps.now)) }
+{
+    let mut writes = RowList::new(alloc);
+    for step in steps {
+        let key = ycsb_key_of(step.key);
+        if part_of(key, parts) == part {
+            if let Some(write) = write_of(alloc, cells_read(rows, key), step)? {
+                writes.push(write)?;
+            }
         }
     }
     Ok(writes)
@@ -104,6 +148,29 @@ pub fn effect_of(
         Program::Ycsb(steps) => Ok(Effect {
             verdict: Verdict::Commit,
             writes: ycsb_writes(alloc, rows.as_slice(), steps.as_slice())?,
+            appends: RowList::new(alloc),
+            answer: 0,
+        }),
+    }
+}
+
+/// What of that lies at the partition `part`, counted from 0, of `parts`. Rows that lie elsewhere are not made.
+pub fn effect_at(
+    alloc: Global,
+    load: &Load,
+    id: TxnId,
+    program: &Program,
+    rows: &[ReadRow<'_>],
+    parts: u8,
+    part: u8,
+) -> Result<Effect, NoMemory>
+    requires parts { 1 ≤ parts }
+    ensures { IfOk result (λ e. e ≡ effect_at parts part (effect load.now id program.now (map as_read rows.now))) }
+{
+    match program {
+        Program::Ycsb(steps) => Ok(Effect {
+            verdict: Verdict::Commit,
+            writes: ycsb_writes_at(alloc, rows, steps.as_slice(), parts, part)?,
             appends: RowList::new(alloc),
             answer: 0,
         }),

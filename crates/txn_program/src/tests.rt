@@ -156,6 +156,17 @@ fn a_transaction_lives_where_its_first_row_lies(rt: HostRuntime) -> Result<(), F
 }
 
 #[test]
+fn participants_rise(rt: HostRuntime) -> Result<(), Fail> {
+    let alloc = rt.alloc();
+    let load = load_of(alloc, 1, &[3, 5, 7], 1, b"a")?;
+    let program = Program::Ycsb(steps_of(alloc, &[7, 5, 3])?);
+    let accesses = accesses_of(alloc, &load, &program)?;
+    let parts = parts_of(alloc, 4, accesses.as_slice())?;
+    assert_eq!(rt; parts.as_slice(), [1, 3].as_slice());
+    Ok(())
+}
+
+#[test]
 fn loads_of_a_file_are_valid(rt: HostRuntime) -> Result<(), Fail> {
     let alloc = rt.alloc();
     for (name, fields, keys, width, text, wanted) in [

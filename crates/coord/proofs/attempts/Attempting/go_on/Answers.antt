@@ -2,8 +2,8 @@ use Rattle.std.proofs.Common.{◌++◌, ◌∙◌, ◌<◌, refl, sym, ap, arith
 use Rattle.std.proofs.lemmas.Option.{slice_get_past, get_or_from_slice_get}
 use Rattle.std.proofs.lemmas.Result.{on_ok_weaker}
 use Rattle.deneva_base.specs.declared.keys.Access.{Access}
+use Rattle.txn_program.specs.Placed.{IsPlaced}
 use Rattle.coord.specs.Attempts.{state_of, setting_at}
-use Rattle.coord.specs.Placed.{IsPlaced}
 use Rattle.coord.specs.States.{going_on, next_mails}
 use Rattle.coord.proofs.attempts.Attempting.go_on.Goals as goal
 

@@ -1,6 +1,6 @@
 use Rattle.std.proofs.Common.{sym, subst}
 use Rattle.txn_program.specs.declared.effects.Effect.{Effect}
-use Rattle.coord.specs.Placed.{RowsArePlaced}
+use Rattle.txn_program.specs.Placed.{RowsArePlaced}
 use Rattle.coord.proofs.Placing.{writes_placed, appends_placed}
 use Rattle.coord.proofs.attempts.Attempting.prepare.Goals as goal
 

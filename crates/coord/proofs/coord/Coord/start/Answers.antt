@@ -1,14 +1,14 @@
 use Rattle.std.proofs.Common.{◌≡◌, ◌++◌, ◌∷◌, [], sym, ap, ap₂, ◌∙◌, refl, subst, arith, List, length, slice_get, Some}
 use Rattle.std.proofs.lemmas.Option.{get_or_from_slice_get}
 use Rattle.deneva_base.specs.declared.keys.Access.{Access}
+use Rattle.txn_program.specs.Placed.{IsPlaced, ArePlaced}
+use Rattle.txn_program.proofs.Placing.{accesses_placed}
 use Rattle.server_core.specs.declared.messages.Mail.{Mail}
 use Rattle.txn_program.specs.Transactions.{accesses}
 use Rattle.txn_program.proofs.WorkloadLaws.{some_accesses}
 use Rattle.coord.specs.Attempts.{setting_at}
 use Rattle.coord.specs.Moves.{stamp_for}
-use Rattle.coord.specs.Placed.{IsPlaced, ArePlaced}
 use Rattle.coord.specs.States.{ask_first}
-use Rattle.coord.proofs.Placing.{accesses_placed}
 use Rattle.coord.proofs.coord.Coord.start.Goals as goal
 
 pub get-first-requires : goal.get-first-requires

@@ -1,0 +1,8 @@
+use Rattle.std.proofs.Common.{◌≡◌, map, drop}
+use Rattle.deneva_base.specs.Rows.{row_at}
+use Rattle.txn_program.specs.Transactions.{as_read}
+use Rattle.txn_program.proofs.effects.cells_read.Given as goal
+
+-- the row is in what is left
+abbrev pub invariant-loop-read : goal.invariant-loop-read
+invariant-loop-read l = row_at (map as_read (drop l.read-index l.rows)) l.key ≡ row_at (map as_read l.rows) l.key
