@@ -5,15 +5,15 @@ use Rattle.std.proofs.lemmas.List.{append-nil, map_more}
 use Rattle.std.proofs.lemmas.List.Elements.{All-weaker}
 use Rattle.std.proofs.lemmas.List.Concat.{flat_map-append}
 use Rattle.deneva_base.specs.declared.numbers.TxnId.{TxnId}
+use Rattle.txn_program.specs.Placed.{ArePlaced}
 use Rattle.txn_program.specs.Serial.{program_of}
+use Rattle.txn_program.proofs.Placing.{accesses_placed}
 use Rattle.server_core.specs.declared.messages.Entry.{Entry}
 use Rattle.server_core.proofs.CalvinSettings.{valid}
 use Rattle.server_core.proofs.Orders.{home_below as below}
-use Rattle.report.specs.Placed.{ArePlaced}
 use Rattle.report.specs.Stories.{Tells, setting_of}
 use Rattle.report.specs.declared.outcomes.run.Run.{Run}
 use Rattle.report.specs.declared.outcomes.stories.Story.{Story}
-use Rattle.report.proofs.Places.{accesses_placed}
 
 pub placed : (r : Run) (H : List Entry) (t : Story) → Tells r H t → ArePlaced t.accesses
 placed r H t k = subst ArePlaced (sym k.accesses) (accesses_placed r.work.now.load (program_of r.work.now t.id))

@@ -1,26 +1,24 @@
 -- Transactions by their ids, and entries one after another.
-use Rattle.std.proofs.Common.{◌≡◌, ℕ, zero, suc, ◌+◌, ◌-◌, ◌<◌, ◌≤◌, List, [], ◌∷◌, ◌++◌, length, get_or, slice_get, map, reverse, take, Bool, true, false, cond, eqb, Some, refl, sym, ap, ◌∙◌, inl, arith}
+use Rattle.std.proofs.Common.{◌≡◌, ℕ, zero, suc, ◌+◌, ◌-◌, ◌<◌, ◌≤◌, List, [], ◌∷◌, ◌++◌, length, get_or, slice_get, map, reverse, take, Bool, true, false, cond, eqb, Some, refl, sym, ap, ◌∙◌, arith}
 use Rattle.std.specs.List.{filter}
 use Rattle.std.proofs.lemmas.List.{append-nil, map-append, reverse-append, take_more}
-use Rattle.std.proofs.lemmas.List.Elements.{All-nil, All-cons, filter-append}
+use Rattle.std.proofs.lemmas.List.Elements.{filter-append}
 use Rattle.std.proofs.lemmas.Option.{get_or_from_slice_get}
 use Rattle.deneva_base.specs.Lists.{IsIn}
 use Rattle.deneva_base.specs.Partitions.{partition_of}
 use Rattle.deneva_base.specs.declared.keys.Access.{Access}
 use Rattle.deneva_base.specs.declared.numbers.TxnId.{TxnId}
 use Rattle.txn_program.specs.Serial.{ids_from, all_ids, program_of}
-use Rattle.txn_program.specs.Transactions.{accesses, access_of, first_key, home_of}
+use Rattle.txn_program.specs.Transactions.{accesses, first_key, home_of}
 use Rattle.txn_program.specs.declared.programs.Load.{Load}
 use Rattle.txn_program.specs.declared.programs.Program.{Program}
 use Rattle.txn_program.specs.declared.programs.Program.TheVariants.{Ycsb}
 use Rattle.txn_program.specs.declared.programs.Workload.{Workload}
-use Rattle.txn_program.specs.declared.programs.YcsbStep.{YcsbStep}
 use Rattle.txn_program.proofs.Ids.{id_for_each, id_from_between}
 use Rattle.server_core.specs.Runs.{heard}
 use Rattle.server_core.specs.Setting.{home_in}
 use Rattle.server_core.specs.declared.messages.Entry.{Entry}
 use Rattle.report.specs.Naming.{is_about, entries_of}
-use Rattle.report.specs.Placed.{IsPlaced, ArePlaced}
 
 -- the id at a place
 from_at : (n : ℕ) (ps : List Program) (k : ℕ) (d : TxnId) → k < length ps → get_or (ids_from n ps) k d ≡ record { 0 = n + k }
@@ -47,14 +45,6 @@ module _ (work : Workload) where
 
   pub program_there : (x : TxnId) (p : Program) → slice_get work.programs (x.0 - 1) ≡ Some p → p ≡ program_of work x
   program_there x p e = sym (get_or_from_slice_get work.programs (x.0 - 1) p (Ycsb []) e)
-
--- every key of a transaction has a partition
-pub accesses_placed : (load : Load) (program : Program) → ArePlaced (accesses load program)
-accesses_placed load (Ycsb steps) = go steps
-  where
-    go : (steps : List YcsbStep) → ArePlaced (map access_of steps)
-    go [] = All-nil (λ (a : Access). IsPlaced a.key)
-    go (s ∷ more) = All-cons (λ (a : Access). IsPlaced a.key) (access_of s) (map access_of more) (omega arith, inl refl) (go more)
 
 heard-append : (p : ℕ) (H K : List Entry) → heard p (H ++ K) ≡ heard p H ++ heard p K
 heard-append p [] K = refl

@@ -3,7 +3,6 @@ pub mod Counting
 pub mod Finishing
 pub mod Naming
 pub mod Outcomes
-pub mod Placed
 pub mod Records
 pub mod ReportText
 pub mod GrantedRows

@@ -5,7 +5,7 @@ use deneva_base::{
     Attempt, Bound, ByteList, Cause, Cell, CellList, Config, IdList, Key, Keyed, Mode, NoMemory,
     Number, Protocol, Row, RowList, TxnId,
 };
-use server_core::{Entry, History, Msg};
+use server_core::{Entry, History, Msg, SentRows};
 use std::alloc::Global;
 use std::test::Fail;
 use txn_program::{
@@ -255,7 +255,7 @@ fn send_row(
     row: (u32, u8),
 ) -> Result<(), NoMemory> {
     let part = (row.0 % 2) as u8;
-    let rows = one_row(alloc, row.0, row.1)?;
+    let rows = SentRows::of(alloc, one_row(alloc, row.0, row.1)?)?;
     let id = TxnId(id);
     handle(history, part, node, Msg::Rows { id, part, rows })
 }

@@ -2,6 +2,7 @@
 ghost use Rattle.std.specs.Prelude.{◌≡◌, ◌↔◌, IsTrue, List, None, reverse, IfOk, IfSome, IfNone};
 ghost use Rattle.deneva_base.specs.Lists.{IsIn};
 ghost use Rattle.deneva_base.specs.declared.numbers.TxnId as numbers;
+ghost use Rattle.txn_program.specs.Placed.{ArePlaced};
 ghost use Rattle.txn_program.specs.Serial.{all_ids};
 ghost use Rattle.txn_program.specs.Valid.{IsValid};
 ghost use Rattle.server_core.specs.Configs.{IsConfig};
@@ -9,7 +10,6 @@ ghost use Rattle.server_core.specs.Outcome.{outcome};
 ghost use Rattle.server_core.specs.Says.{IsQuiet};
 ghost use Rattle.server_core.specs.declared.messages.Entry as messages;
 ghost use Rattle.report.specs.Outcomes.{with_rows, IsOver, IsLeastOpen};
-ghost use Rattle.report.specs.Placed.{ArePlaced};
 ghost use Rattle.report.specs.Stories.{Tells};
 
 mod abort_lines;
@@ -19,7 +19,6 @@ mod ends;
 mod groups;
 mod lists;
 mod ordered;
-mod partitions;
 mod replies;
 mod run;
 mod stories;

@@ -19,7 +19,7 @@ mod tests;
 mod threads;
 
 pub use any_protocol::runs_are_right;
-use deneva_base::Items;
+use deneva_base::{Items, Keyed, Shared};
 pub use headline::voting_runs_are_right;
 pub use laws::{
     aborts_are_named, commits_are_atomic, deliveries_are_runs, mails_fit, quiet_means_decided,
@@ -39,6 +39,9 @@ pub use server::{Handles, Letter, Server};
 pub use settings::{ordered_settings_are_valid, settings_are_valid};
 
 pub type MailList = Items<Mail>;
+
+/// Rows that go to several nodes, which share them.
+pub type SentRows = Shared<Keyed>;
 
 /// The entries of a run, in the order of their places.
 pub type History = Items<Entry>;

@@ -1,6 +1,7 @@
 //! Messages between nodes. A node is a partition together with the coordinator of its home transactions.
 ghost use Rattle.std.specs.Prelude.{◌≡◌, IfOk, IfSome};
 
+use crate::SentRows;
 use deneva_base::{
     Attempt, Bound, Cause, Copied, IdList, Key, Mode, NoMemory, Number, Row, RowList, TxnId,
 };
@@ -87,7 +88,7 @@ pub enum Msg {
     Rows {
         id: TxnId,
         part: u8,
-        rows: RowList,
+        rows: SentRows,
     },
     /// Participant to home: the transaction is finished here.
     Finished {
@@ -162,7 +163,7 @@ impl Copied for Msg {
             Msg::Rows { id, part, rows } => Ok(Msg::Rows {
                 id: *id,
                 part: *part,
-                rows: rows.copy(alloc)?,
+                rows: rows.share()?,
             }),
             plain => copied_plain(plain).ok_or(NoMemory),
         }

@@ -120,7 +120,7 @@ fn messages_with_a_list_are_copied(rt: HostRuntime) -> Result<(), Fail> {
         msg: Msg::Rows {
             id: TxnId(3),
             part: 1,
-            rows: rows(rt.alloc())?,
+            rows: SentRows::of(rt.alloc(), rows(rt.alloc())?)?,
         },
     };
     assert_eq!(rt; mail.copied(rt.alloc())?, mail);

@@ -1,19 +1,19 @@
 //! How the attempts of a transaction ended.
 ghost use Rattle.std.specs.Prelude.{◌≡◌, List, IfOk, option_map, option_to_list};
+ghost use Rattle.txn_program.specs.Placed.{ArePlaced};
 ghost use Rattle.server_core.specs.Coordinator as coordinator;
 ghost use Rattle.server_core.specs.Ends as ends;
 ghost use Rattle.server_core.specs.declared.messages.Entry as messages;
 ghost use Rattle.report.specs.ByTransaction.{giveups_for};
-ghost use Rattle.report.specs.Placed.{ArePlaced};
 ghost use Rattle.report.specs.Stories.{Tells, setting_of};
 ghost use Rattle.report.specs.declared.outcomes.run.Run as runs;
 
-use crate::outcomes::partitions::parts_of;
 use crate::outcomes::replies::{all_done, all_undone, grants_for, refused_for, started_for};
 use crate::outcomes::run::Run;
 use crate::outcomes::stories::Story;
 use deneva_base::{Attempt, ByteList, NoMemory};
 use server_core::Giveup;
+use txn_program::parts_of;
 
 impl Story<'_> {
     pub(crate) fn attempt(&self, turn: u8) -> Attempt

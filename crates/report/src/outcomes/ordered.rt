@@ -3,6 +3,7 @@ ghost use Rattle.std.specs.Prelude.{◌≡◌, ◌↔◌, ◌<◌, ◌≤◌, �
 ghost use Rattle.std.specs.List.{All, list_all};
 ghost use Rattle.deneva_base.specs.Rows as base_rows;
 ghost use Rattle.deneva_base.specs.declared.config.Protocol.TheVariants.{Calvin};
+ghost use Rattle.txn_program.specs.Placed.{ArePlaced};
 ghost use Rattle.txn_program.specs.Serial.{all_ids};
 ghost use Rattle.server_core.specs.GlobalOrder.{numbered};
 ghost use Rattle.server_core.specs.Ordered as ordered;
@@ -10,7 +11,6 @@ ghost use Rattle.server_core.specs.Outcome.{outcome};
 ghost use Rattle.server_core.specs.declared.messages.Entry as messages;
 ghost use Rattle.report.specs.Finishing.{gathered, finished_line, finished_lines_of, IsPlace};
 ghost use Rattle.report.specs.Outcomes.{with_rows, IsOver};
-ghost use Rattle.report.specs.Placed.{ArePlaced};
 ghost use Rattle.report.specs.Stories.{Tells, setting_of};
 
 use crate::outcomes::lists::in_number_order;

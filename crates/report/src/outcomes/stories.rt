@@ -9,12 +9,11 @@ ghost use Rattle.report.specs.Naming.{entries_of};
 ghost use Rattle.report.specs.Stories.{Tells};
 
 use crate::outcomes::groups::{Group, group};
-use crate::outcomes::partitions::parts_of;
 use crate::outcomes::run::Run;
 use deneva_base::{AccessList, ByteList, NoMemory, TxnId};
 use server_core::{Entry, Msg};
 use std::alloc::Global;
-use txn_program::{Program, accesses_of, home};
+use txn_program::{Program, accesses_of, home, parts_of};
 
 /// A transaction with its entries, the newest first, and the messages among them that its home has handled.
 #[derive(Drop)]

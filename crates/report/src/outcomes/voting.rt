@@ -1,10 +1,10 @@
 //! What came of a run of a voting protocol.
 ghost use Rattle.std.specs.Prelude.{◌≡◌, ◌↔◌, IsTrue, List, reverse, IfOk};
+ghost use Rattle.txn_program.specs.Placed.{ArePlaced};
 ghost use Rattle.server_core.specs.Configs.{IsVoting};
 ghost use Rattle.server_core.specs.Outcome.{outcome};
 ghost use Rattle.server_core.specs.declared.messages.Entry as messages;
 ghost use Rattle.report.specs.Outcomes.{with_rows, IsOver};
-ghost use Rattle.report.specs.Placed.{ArePlaced};
 ghost use Rattle.report.specs.Stories.{Tells};
 
 use crate::outcomes::lists::{aborts_of, giveups_of, in_number_order, lines_of};

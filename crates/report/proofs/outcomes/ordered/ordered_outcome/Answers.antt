@@ -3,6 +3,7 @@ use Rattle.std.specs.List.{All, IsDistinct}
 use Rattle.std.proofs.lemmas.List.{length-map}
 use Rattle.std.proofs.lemmas.List.Elements.{All-weaker}
 use Rattle.deneva_base.specs.Keys.{id_eq}
+use Rattle.txn_program.specs.Placed.{ArePlaced}
 use Rattle.txn_program.specs.Serial.{all_ids}
 use Rattle.txn_program.proofs.Ids.{distinct_ids, few_ids}
 use Rattle.server_core.specs.Outcome.{sort_lines}
@@ -11,7 +12,6 @@ use Rattle.server_core.specs.declared.outcomes.Outcome.{Outcome}
 use Rattle.server_core.specs.declared.outcomes.RunKind.TheVariants.{Under}
 use Rattle.server_core.proofs.CalvinBridges.{outcome_ordered}
 use Rattle.report.specs.Outcomes.{with_rows}
-use Rattle.report.specs.Placed.{ArePlaced}
 use Rattle.report.specs.Stories.{Tells, setting_of}
 use Rattle.report.specs.declared.outcomes.stories.Story.{Story}
 use Rattle.report.proofs.Gathering.{all_placed, home_below}

@@ -1,12 +1,13 @@
 use Rattle.std.proofs.Common.{◌≡◌, map, reverse, sym, ap, subst, ◌∙◌, true, arith}
+use Rattle.txn_program.specs.Placed.{ArePlaced}
 use Rattle.txn_program.specs.Transactions as transactions
 use Rattle.txn_program.specs.Valid.{is_valid_program}
 use Rattle.txn_program.specs.declared.programs.Program.{Program}
 use Rattle.txn_program.proofs.Ids.{id_between, id_for_each, valid_id}
+use Rattle.txn_program.proofs.Placing.{accesses_placed}
 use Rattle.server_core.specs.Runs.{heard}
 use Rattle.server_core.specs.Setting.{home_in}
-use Rattle.report.specs.Placed.{ArePlaced}
-use Rattle.report.proofs.Places.{program_there, accesses_placed, entries_reversed, home_there, map-reverse}
+use Rattle.report.proofs.Places.{program_there, entries_reversed, home_there, map-reverse}
 use Rattle.report.proofs.outcomes.stories.story_of.Goals as goal
 
 pub overflow_sub-id : goal.overflow_sub-id

@@ -1,6 +1,7 @@
 use Rattle.std.proofs.Common.{List, map, reverse, subst, ap, sym, ◌∙◌}
 use Rattle.std.specs.List.{All, flat_map, IsDistinct}
 use Rattle.deneva_base.specs.Keys.{id_eq}
+use Rattle.txn_program.specs.Placed.{ArePlaced}
 use Rattle.server_core.specs.Aborts.{turns}
 use Rattle.server_core.specs.Outcome.{sort_lines}
 use Rattle.server_core.specs.declared.outcomes.Decided.{Decided}
@@ -9,7 +10,6 @@ use Rattle.server_core.specs.declared.outcomes.RunKind.TheVariants.{Under}
 use Rattle.server_core.proofs.Bridges.{outcome_voting}
 use Rattle.report.specs.ByTransaction.{lines_for, giveups_for}
 use Rattle.report.specs.Outcomes.{with_rows}
-use Rattle.report.specs.Placed.{ArePlaced}
 use Rattle.report.specs.Stories.{Tells, setting_of}
 use Rattle.report.specs.declared.outcomes.stories.Story.{Story}
 use Rattle.report.proofs.Gathering.{all_placed}
