@@ -23,7 +23,7 @@ use Rattle.calvin_sched.specs.Asked.{request_of, requests_of, asked, all_free, F
 use Rattle.calvin_sched.specs.declared.requests.Request.{Request}
 
 -- two tests that imply each other are one
-same_test : (a b : Bool) → (a ≡ true → b ≡ true) → (b ≡ true → a ≡ true) → a ≡ b
+pub same_test : (a b : Bool) → (a ≡ true → b ≡ true) → (b ≡ true → a ≡ true) → a ≡ b
 same_test true b f g = sym (f refl)
 same_test false true f g = g refl
 same_test false false f g = refl

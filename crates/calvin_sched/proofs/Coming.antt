@@ -94,7 +94,7 @@ module _ (s : Setting) (p : ℕ) where
     unfinished = ⊎_elim (λ t. absurd (not_both (has_rows ms x q) (all_at (has_rows ms x) q (parts_for s x) t suits.2) suits.4)) (λ f. f) (is_or_not (is_finished s ms x))
 
     module _ (arrivals : Arrivals) (has : HasArrivals s arrivals ms) where
-      kept : arrivals_at arrivals x ≡ came_for x ms
+      pub kept : arrivals_at arrivals x ≡ came_for x ms
       kept = has x suits.1 ∙ ap (λ b. cond b [] (came_for x ms)) unfinished
 
       -- all is there where the transaction is finished

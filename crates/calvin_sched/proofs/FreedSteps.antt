@@ -48,9 +48,9 @@ id_at w x i =
     let e : 1 + (x.0 - 1) ≡ x.0 = omega (arith, b.0) in
     from_at 1 (x.0 - 1) w.programs (omega (arith, b.0, b.1, id_for_each w)) ∙ ap {A = ℕ} (λ k. Some (record { 0 = k })) e
 
--- the number at the place of an id is its number
-pub number_at : (w : Workload) (f : TxnId → Number) (ns : List Number) (x : TxnId) (n : Number) → ns ≡ map f (all_ids w) → IsIn x (all_ids w) → n ≡ get_or ns (x.0 - 1) n → n ≡ f x
-number_at w f ns x n e i at =
+-- what stands at the place of an id is its own
+pub own_at : {A : Type 0} (w : Workload) (f : TxnId → A) (ns : List A) (x : TxnId) (n : A) → ns ≡ map f (all_ids w) → IsIn x (all_ids w) → n ≡ get_or ns (x.0 - 1) n → n ≡ f x
+own_at w f ns x n e i at =
     let b = id_between w x i in
     at
     ∙ ap (λ l. get_or l (x.0 - 1) n) e

@@ -5,6 +5,7 @@ pub mod Asked
 pub mod Slots
 pub mod Batching
 pub mod Coming
+pub mod Counting
 pub mod Finishing
 pub mod After
 pub mod LockSteps
@@ -12,6 +13,6 @@ pub mod ArrivalSteps
 pub mod BatchSteps
 pub mod RowSteps
 pub mod Loads
-pub mod Placing
+pub mod Leaving
 pub mod NowRows
 pub mod Nodes

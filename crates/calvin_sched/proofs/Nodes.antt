@@ -61,6 +61,7 @@ stands_tick n ms e h fit = record {
   sequencer = h.sequencer;
   fit = (fit, h.fit);
   numbers = h.numbers;
+  counts = h.counts;
   batches = record { came = h.batches.came; taken = h.batches.taken };
   locks = h.locks;
   arrivals = h.arrivals;
@@ -73,6 +74,7 @@ stands_told n ms x q number h fit = record {
   sequencer = h.sequencer;
   fit = (fit, h.fit);
   numbers = h.numbers;
+  counts = h.counts;
   batches = record { came = h.batches.came; taken = h.batches.taken };
   locks = h.locks;
   arrivals = h.arrivals;
@@ -167,7 +169,7 @@ module _ (n : CalvinNode) (ms : List Msg) (stands : CalvinStands n ms) (e q : �
       let f = flat_in (batch s) x (as_far (has_batch (Batch e q ids ∷ ms)) (past (has_batch ms) (slots s))) i in
       (batch_in s f.0 x f.2).0
 
-  pub stands_batch : (batches : Batches) (locks : LockTable) (fresh : List TxnId) → fresh ≡ newly_taken (setting_of n.place) (Batch e q ids) ms → ((key : Key) → queue_at locks key ≡ queue_at n.locks key ++ for_key key (asked (setting_of n.place) n.place.part fresh)) → came batches ≡ slice_set (came n.batches) (e * n.place.config.parts + q) (Some ids) → AreTaken batches → CalvinStands (record { place = n.place; sequencer = n.sequencer; numbers = n.numbers; batches = batches; locks = locks; arrivals = n.arrivals; store = n.store }) (Batch e q ids ∷ ms)
+  pub stands_batch : (batches : Batches) (locks : LockTable) (fresh : List TxnId) → fresh ≡ newly_taken (setting_of n.place) (Batch e q ids) ms → ((key : Key) → queue_at locks key ≡ queue_at n.locks key ++ for_key key (asked (setting_of n.place) n.place.part fresh)) → came batches ≡ slice_set (came n.batches) (e * n.place.config.parts + q) (Some ids) → AreTaken batches → CalvinStands (record { place = n.place; sequencer = n.sequencer; numbers = n.numbers; counts = n.counts; batches = batches; locks = locks; arrivals = n.arrivals; store = n.store }) (Batch e q ids ∷ ms)
   stands_batch batches locks fresh is asks set taken' =
       let s : Setting = setting_of n.place in
       let v : Valid s = calvin.valid n.place.config n.place.work.now n.place.valid n.place.ranges in
@@ -176,6 +178,7 @@ module _ (n : CalvinNode) (ms : List Msg) (stands : CalvinStands n ms) (e q : �
         sequencer = stands.sequencer;
         fit = ((q, suits), stands.fit);
         numbers = stands.numbers;
+        counts = stands.counts;
         batches = batches_more s v n.place.part ms stands.fit e q ids suits n.batches batches stands.batches set taken';
         locks = locks_more s v n.place.part ms stands.fit e q ids suits n.locks locks fresh is stands.locks asks;
         arrivals = stands.arrivals;
@@ -183,12 +186,13 @@ module _ (n : CalvinNode) (ms : List Msg) (stands : CalvinStands n ms) (e q : �
       }
 
 -- Where there was no memory, and the queues are as they were.
-pub stands_back : (n : CalvinNode) (ms : List Msg) (locks : LockTable) → CalvinStands n ms → ((key : Key) → queue_at locks key ≡ queue_at n.locks key) → CalvinStands (record { place = n.place; sequencer = n.sequencer; numbers = n.numbers; batches = n.batches; locks = locks; arrivals = n.arrivals; store = n.store }) ms
+pub stands_back : (n : CalvinNode) (ms : List Msg) (locks : LockTable) → CalvinStands n ms → ((key : Key) → queue_at locks key ≡ queue_at n.locks key) → CalvinStands (record { place = n.place; sequencer = n.sequencer; numbers = n.numbers; counts = n.counts; batches = n.batches; locks = locks; arrivals = n.arrivals; store = n.store }) ms
 stands_back n ms locks stands same = record {
   ordered = stands.ordered;
   sequencer = stands.sequencer;
   fit = stands.fit;
   numbers = stands.numbers;
+  counts = stands.counts;
   batches = stands.batches;
   locks = λ key. same key ∙ stands.locks key;
   arrivals = stands.arrivals;

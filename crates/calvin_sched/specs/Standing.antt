@@ -1,5 +1,5 @@
 -- What a node stands for: the messages that it has handled, the newest first.
-use Rattle.std.specs.Prelude.{◌≡◌, ℕ, List, [], ◌∷◌, ◌++◌, map, cond, eqb, Option, Some, None}
+use Rattle.std.specs.Prelude.{◌≡◌, ℕ, List, [], ◌∷◌, ◌++◌, map, length, cond, eqb, Option, Some, None}
 use Rattle.deneva_base.specs.Keys.{id_eq}
 use Rattle.deneva_base.specs.Lists.{IsIn}
 use Rattle.deneva_base.specs.Partitions.{partition_of}
@@ -11,7 +11,7 @@ use Rattle.server_core.specs.ActiveList.{active}
 use Rattle.server_core.specs.CalvinFits.{AllFit}
 use Rattle.server_core.specs.GlobalOrder.{Slot, slots, batch, number}
 use Rattle.server_core.specs.Ordered.{has_batch, is_finished}
-use Rattle.server_core.specs.Setting.{Setting}
+use Rattle.server_core.specs.Setting.{Setting, parts_for}
 use Rattle.server_core.specs.declared.messages.Msg.TheVariants as msg
 use Rattle.server_core.specs.declared.messages.Msg.{Msg}
 use Rattle.calvin_sched.specs.Arrivals.{arrivals_at}
@@ -59,6 +59,7 @@ pub record CalvinStands (n : CalvinNode) (ms : List Msg) : Type 0 where
   pub sequencer : role_of (place_of n.sequencer) ≡ role_of n.place
   pub fit : AllFit (setting_of n.place) n.place.part ms
   pub numbers : n.numbers.items ≡ map (number (setting_of n.place)) (setting_of n.place).ids
+  pub counts : n.counts.items ≡ map (λ x. length (parts_for (setting_of n.place) x)) (setting_of n.place).ids
   pub batches : HasBatches (setting_of n.place) n.batches ms
   pub locks : HasLocks (setting_of n.place) n.place.part n.locks ms
   pub arrivals : HasArrivals (setting_of n.place) n.arrivals ms

@@ -1,9 +1,10 @@
 //! The rows that came for transactions that have not finished here.
 ghost use Rattle.std.specs.Prelude.{◌≡◌, ◌++◌, ◌∷◌, [], OnOk, OnErr};
 ghost use Rattle.deneva_base.specs.declared.numbers.TxnId.{TxnId};
-ghost use Rattle.calvin_sched.specs.Arrivals.{arrivals_at, has_come, rows_of_part, Sets, Same};
+ghost use Rattle.calvin_sched.specs.Arrivals.{arrivals_at, rows_of_part, Sets, Same};
 
-use deneva_base::{Keyed, NoMemory, RowList, TxnId};
+use deneva_base::{Keyed, NoMemory, TxnId};
+use server_core::SentRows;
 use std::alloc::Global;
 use std::collections::HashMap;
 
@@ -11,7 +12,7 @@ use std::collections::HashMap;
 #[derive(Drop)]
 pub(crate) struct Arrival {
     pub part: u8,
-    pub rows: RowList,
+    pub rows: SentRows,
 }
 
 /// What came for one transaction.
@@ -48,7 +49,7 @@ impl Arrivals {
     }
 
     /// Keeps the rows of a participant.
-    pub fn add(&mut self, id: TxnId, part: u8, rows: RowList) -> Result<(), NoMemory>
+    pub fn add(&mut self, id: TxnId, part: u8, rows: SentRows) -> Result<(), NoMemory>
         ensures ok { OnOk result (Sets self.old id (arrivals_at self.old id ++ record { part = part; rows = rows } ∷ []) self.new) }
         ensures err { OnErr result (Same self.old self.new) }
     {
@@ -71,13 +72,6 @@ impl Arrivals {
     {
         self.arrived.remove(&id);
     }
-}
-
-/// Whether rows of the partition came.
-pub(crate) fn has_come(arrived: &[Arrival], part: u8) -> bool
-    ensures { result ≡ has_come arrived.now part }
-{
-    arrived.iter().any(|arrival| arrival.part == part)
 }
 
 /// The rows of the partition, and none where they did not come.

@@ -22,8 +22,8 @@ ghost use Rattle.calvin_sched.specs.Tables.{queue_at};
 use crate::node::CalvinNode;
 use crate::rows::put_left;
 use calvin_seq::{put_all, say_all};
-use deneva_base::{Access, IdList, Keyed, NoMemory, RowList, TxnId};
-use server_core::{Mail, MailList, Msg, Outbox};
+use deneva_base::{Access, IdList, Keyed, NoMemory, TxnId};
+use server_core::{Mail, MailList, Msg, Outbox, SentRows};
 
 impl<'w> CalvinNode<'w> {
     /// Sends the rows of those of these transactions that are ready.
@@ -98,7 +98,7 @@ impl<'w> CalvinNode<'w> {
         &mut self,
         id: TxnId,
         part: u8,
-        rows: &RowList,
+        rows: &SentRows,
         out: &mut Outbox,
     ) -> Result<(), NoMemory>
         requires fits { (ms : List messages.Msg) × CalvinStands self.old ms × Suits (setting_of self.old.place) self.old.place.part part (msg.Rows id part rows.now) ms }
@@ -127,7 +127,7 @@ impl<'w> CalvinNode<'w> {
         &mut self,
         id: TxnId,
         part: u8,
-        rows: &RowList,
+        rows: &SentRows,
         out: &mut Outbox,
     ) -> Result<(), NoMemory>
         requires fits { (ms : List messages.Msg) × CalvinStands self.old ms × Suits (setting_of self.old.place) self.old.place.part part (msg.Rows id part rows.now) ms }
@@ -137,10 +137,10 @@ impl<'w> CalvinNode<'w> {
         ensures same_mails { OnErr result (out.new.mails ≡ out.old.mails) }
         ensures same { OnErr result ((ms : List messages.Msg) → CalvinStands self.old ms → CalvinStands self.new ms) }
     {
-        if self.is_complete(id, part)? {
+        if self.is_complete(id) {
             self.finish(id, part, rows, out)
         } else {
-            let rows = rows.copy(self.place.alloc)?;
+            let rows = rows.share()?;
             self.arrivals.add(id, part, rows)
         }
     }

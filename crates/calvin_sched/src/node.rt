@@ -9,7 +9,7 @@ use crate::arrivals::Arrivals;
 use crate::batches::Batches;
 use crate::locks::LockTable;
 use crate::rows::store_of;
-use calvin_seq::{Place, Sequencer, epochs, numbers_of};
+use calvin_seq::{Place, Sequencer, epochs, numbers_of, participant_counts};
 use deneva_base::{Config, NoMemory, Number, Protocol, RowList};
 use row_store::Store;
 use server_core::{Handles, Msg, Outbox, Server};
@@ -24,6 +24,8 @@ pub struct CalvinNode<'w> {
     pub(crate) sequencer: Sequencer<'w>,
     /// The number of each transaction, by its id.
     pub(crate) numbers: Vec<Number>,
+    /// How many participants each transaction has, by its id.
+    pub(crate) counts: Vec<u8>,
     pub(crate) batches: Batches,
     pub(crate) locks: LockTable,
     pub(crate) arrivals: Arrivals,
@@ -79,6 +81,7 @@ impl<'w> Server<'w> for CalvinNode<'w> {
             place: Place::new(alloc, config, part, work),
             sequencer: Sequencer::begin(alloc, config, part, work)?,
             numbers: numbers_of(alloc, work, config.parts)?,
+            counts: participant_counts(alloc, work, config.parts)?,
             batches: Batches::begin(alloc, count)?,
             locks: LockTable::new(alloc),
             arrivals: Arrivals::new(alloc),

@@ -53,7 +53,7 @@ number_is work k less program got c parts same some q j at counted =
     ∙ ap (λ r. number_at s (id_of k) r (index_of (id_of k) (homes s (home s (id_of k))))) there
 
 -- at most as many pass as there are
-few_pass : {A : Type 0} (p : A → Bool) (xs : List A) → length (filter p xs) ≤ length xs
+pub few_pass : {A : Type 0} (p : A → Bool) (xs : List A) → length (filter p xs) ≤ length xs
 few_pass p [] = omega arith
 few_pass p (x ∷ xs) = go (p x) (few_pass p xs)
   where

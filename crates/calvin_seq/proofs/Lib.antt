@@ -2,4 +2,5 @@ pub mod Places
 pub mod Placing
 pub mod Eights
 pub mod Counts
+pub mod Parts
 pub mod Trying

@@ -1,24 +1,11 @@
--- Every key of a transaction has a partition.
-use Rattle.std.proofs.Common.{ℕ, ◌≡◌, List, [], ◌∷◌, map, refl, inl, sym, subst, arith}
-use Rattle.std.proofs.lemmas.List.Elements.{All-cons}
+-- Every key in the list of the accesses of a transaction has a partition.
+use Rattle.std.proofs.Common.{◌≡◌, List, sym, subst}
 use Rattle.deneva_base.specs.declared.keys.Access.{Access}
-use Rattle.txn_program.specs.Transactions.{accesses, access_of, ycsb_key}
+use Rattle.txn_program.specs.Placed.{ArePlaced}
+use Rattle.txn_program.specs.Transactions.{accesses}
 use Rattle.txn_program.specs.declared.programs.Load.{Load}
 use Rattle.txn_program.specs.declared.programs.Program.{Program}
-use Rattle.txn_program.specs.declared.programs.Program.TheVariants.{Ycsb}
-use Rattle.txn_program.specs.declared.programs.YcsbStep.{YcsbStep}
-use Rattle.calvin_seq.specs.Placed.{IsPlaced, ArePlaced}
+use Rattle.txn_program.proofs.Placing.{accesses_placed}
 
-ycsb_placed : (n : ℕ) → IsPlaced (ycsb_key n)
-ycsb_placed n = (omega arith, inl refl)
-
-pub accesses_placed : (load : Load) (program : Program) → ArePlaced (accesses load program)
-accesses_placed load (Ycsb steps) = go steps
-  where
-    go : (steps : List YcsbStep) → ArePlaced (map access_of steps)
-    go [] = λ k d less. absurd (omega (arith, less))
-    go (s ∷ more) = All-cons (λ (a : Access). IsPlaced a.key) (access_of s) (map access_of more) (ycsb_placed s.key) (go more)
-
--- and so for a list of its accesses
 pub placed_same : (load : Load) (program : Program) (list : List Access) → list ≡ accesses load program → ArePlaced list
 placed_same load program list is = subst ArePlaced (sym is) (accesses_placed load program)

@@ -13,6 +13,7 @@ mod ticks;
 mod transactions;
 
 pub use order::{calvin_number, epochs, numbers_of};
+pub use partitions::participant_counts;
 pub use place::Place;
 pub use saying::{put_all, say_all};
 pub use sequencer::Sequencer;

@@ -1,38 +1,23 @@
-//! Where transactions take part.
-ghost use Rattle.std.specs.Prelude.{◌≡◌, ◌≤◌, ◌==◌, IfOk};
-ghost use Rattle.std.specs.List.{list_any};
-ghost use Rattle.deneva_base.specs.Partitions.{partition_of};
-ghost use Rattle.txn_program.specs.Transactions as transactions;
-ghost use Rattle.calvin_seq.specs.Placed.{ArePlaced};
+//! How many participants transactions have.
+ghost use Rattle.std.specs.Prelude.{◌≡◌, ◌≤◌, IfOk, map, length};
+ghost use Rattle.deneva_base.specs.declared.config.Config.{Config};
+ghost use Rattle.txn_program.specs.Serial.{all_ids};
+ghost use Rattle.server_core.specs.Setting.{setting, parts_for};
 
-use deneva_base::{Access, NoMemory, part_of};
+use deneva_base::NoMemory;
 use std::alloc::Global;
+use txn_program::{Workload, accesses_of, parts_of};
 
-/// Whether one of the accesses is at the partition.
-fn is_accessed(parts: u8, part: u8, accesses: &[Access]) -> bool
+/// How many participants each transaction has, in file order.
+pub fn participant_counts(alloc: Global, work: &Workload, parts: u8) -> Result<Vec<u8>, NoMemory>
     requires parts { 1 ≤ parts }
-    requires placed { ArePlaced accesses.now }
-    ensures { result ≡ list_any (λ a. partition_of a.key parts == part) accesses.now }
+    ensures { IfOk result (λ counts. (c : Config) → c.parts ≡ parts → counts.items ≡ map (λ x. length (parts_for (setting c work.now) x)) (all_ids work.now)) }
 {
-    for access in accesses {
-        if part_of(access.key, parts) == part {
-            return true;
-        }
+    let mut counts = Vec::with_capacity(alloc, work.programs.len())?;
+    for at in 0..work.programs.len() {
+        let accesses = accesses_of(alloc, &work.load, work.programs.get(at))?;
+        let found = parts_of(alloc, parts, accesses.as_slice())?;
+        counts.push(found.len() as u8)?;
     }
-    false
-}
-
-/// The partitions of these accesses, in rising order.
-pub(crate) fn parts_of(alloc: Global, parts: u8, accesses: &[Access]) -> Result<Vec<u8>, NoMemory>
-    requires parts { 1 ≤ parts }
-    requires placed { ArePlaced accesses.now }
-    ensures { IfOk result (λ v. v.items ≡ transactions.parts_of parts accesses.now) }
-{
-    let mut found = Vec::new(alloc);
-    for part in 0..parts {
-        if is_accessed(parts, part, accesses) {
-            found.push(part)?;
-        }
-    }
-    Ok(found)
+    Ok(counts)
 }

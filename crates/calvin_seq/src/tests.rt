@@ -2,7 +2,7 @@
 ghost use Rattle.std.specs.Prelude.{◌≡◌, IfOk, map};
 ghost use Rattle.calvin_seq.specs.Trials.{one_field, one_read, ten_reads};
 
-use crate::{Sequencer, calvin_number, epochs, numbers_of};
+use crate::{Sequencer, calvin_number, epochs, numbers_of, participant_counts};
 use deneva_base::{
     ByteList, Cell, CellList, Config, IdList, Key, Keyed, NoMemory, Number, Protocol, Row, RowList,
     TxnId,
@@ -17,6 +17,9 @@ const KEYS: [u32; 10] = [1, 1, 0, 1, 1, 1, 1, 1, 1, 1];
 
 /// The number of each. The first eight of node 1 have 9 to 16, and its ninth is in the next epoch: (1 * 2 + 1) * 8 + 0 + 1.
 const NUMBERS: [u64; 10] = [9, 10, 1, 11, 12, 13, 14, 15, 16, 25];
+
+/// How many participants each has: that of its one key alone.
+const COUNTS: [u8; 10] = [1, 1, 1, 1, 1, 1, 1, 1, 1, 1];
 
 fn row_of(alloc: Global, a: u32) -> Result<Keyed, NoMemory>
     ensures { IfOk result (λ r. r ≡ one_field a) }
@@ -88,6 +91,18 @@ fn transactions_have_numbers(rt: HostRuntime) -> Result<(), Fail> {
         let number = Number { n: NUMBERS[at], id };
         assert_eq!(rt; numbers.get(at), Some(&number));
         assert_eq!(rt; calvin_number(&work, 2, id), number);
+    }
+    Ok(())
+}
+
+#[test]
+fn each_transaction_has_one_participant(rt: HostRuntime) -> Result<(), Fail> {
+    let alloc = rt.alloc();
+    let work = ten_reads_of(alloc)?;
+    let counts = participant_counts(alloc, &work, 2)?;
+    assert_eq!(rt; counts.len(), COUNTS.len());
+    for at in 0..COUNTS.len() {
+        assert_eq!(rt; counts.get(at), Some(&COUNTS[at]));
     }
     Ok(())
 }

@@ -1,19 +1,19 @@
 //! What a node knows of the transactions of its run, and how it tells other nodes.
-ghost use Rattle.std.specs.Prelude.{◌≡◌, ◌<◌, ◌≤◌, ◌++◌, ℕ, take, IfOk, OnOk, OnErr};
+ghost use Rattle.std.specs.Prelude.{◌≡◌, ◌<◌, ◌≤◌, ◌++◌, ℕ, map, take, IfOk, OnOk, OnErr};
 ghost use Rattle.deneva_base.specs.Lists.{IsIn};
 ghost use Rattle.txn_program.specs.Serial.{all_ids, program_of};
+ghost use Rattle.txn_program.specs.Transactions.{as_read, effect_at};
 ghost use Rattle.txn_program.specs.Valid.{IsValid};
 ghost use Rattle.server_core.specs.Configs.{IsConfig};
 ghost use Rattle.server_core.specs.Coordinator.{to_all};
 ghost use Rattle.server_core.specs.Setting.{home, parts_for};
 ghost use Rattle.calvin_seq.specs.Places.{setting_of, accesses_at};
 
-use crate::partitions::parts_of;
 use crate::place::Place;
-use deneva_base::{AccessList, Config, Copied, NoMemory, RowList, TxnId, part_of};
+use deneva_base::{AccessList, ByteList, Config, Copied, NoMemory, TxnId, part_of};
 use server_core::{Mail, MailList, Msg};
 use std::alloc::Global;
-use txn_program::{Effect, Program, Workload, accesses_of, effect_of, home};
+use txn_program::{Effect, Program, ReadRow, Workload, accesses_of, effect_at, home, parts_of};
 
 impl<'w> Place<'w> {
     /// The node `part`, counted from 0, of a run of the workload.
@@ -72,19 +72,28 @@ impl<'w> Place<'w> {
     }
 
     /// The partitions at which the transaction takes part, in rising order.
-    pub fn parts(&self, id: TxnId) -> Result<Vec<u8>, NoMemory>
+    pub fn parts(&self, id: TxnId) -> Result<ByteList, NoMemory>
         requires id { IsIn id (all_ids self.now.work.now) }
-        ensures { IfOk result (λ parts. parts.items ≡ parts_for (setting_of self.now) id) }
+        ensures { IfOk result (λ parts. parts ≡ parts_for (setting_of self.now) id) }
     {
         parts_of(self.alloc, self.config.parts, self.accesses(id)?.as_slice())
     }
 
-    /// What the transaction makes of the rows of its accesses that read, which stand in their order.
-    pub fn effect(&self, id: TxnId, rows: &RowList) -> Result<Effect, NoMemory>
+    /// What the transaction makes at this node of the rows of its accesses that read, which stand in their order.
+    pub fn effect_here(&self, id: TxnId, rows: &[ReadRow<'_>]) -> Result<Effect, NoMemory>
         requires id { IsIn id (all_ids self.now.work.now) }
-        ensures { IfOk result (λ e. e ≡ (setting_of self.now).effect id rows.now) }
+        ensures { IfOk result (λ e. e ≡ effect_at self.now.config.parts self.now.part ((setting_of self.now).effect id (map as_read rows.now))) }
     {
-        effect_of(self.alloc, &self.work.load, id, self.program(id), rows)
+        let (program, parts) = (self.program(id), self.config.parts);
+        effect_at(
+            self.alloc,
+            &self.work.load,
+            id,
+            program,
+            rows,
+            parts,
+            self.part,
+        )
     }
 
     /// Puts mails of this node at the end, one with a copy of the message for each of these nodes. Where there is no memory

@@ -5,6 +5,7 @@ use Rattle.deneva_base.specs.Partitions.{partition_of}
 use Rattle.deneva_base.specs.Rows.{row_at}
 use Rattle.deneva_base.specs.declared.keys.Access.{Access}
 use Rattle.deneva_base.specs.declared.rows.Keyed.{Keyed}
+use Rattle.txn_program.specs.Transactions.{as_read}
 use Rattle.calvin_sched.specs.Reading.{rows_with}
 use Rattle.calvin_sched.proofs.node.CalvinNode.collect.Given as goal
 
@@ -12,4 +13,4 @@ use Rattle.calvin_sched.proofs.node.CalvinNode.collect.Given as goal
 abbrev pub invariant-loop-access : goal.invariant-loop-access
 invariant-loop-access l =
     let row : Access → Keyed = λ a. record { key = a.key; row = row_at (rows_with l.arrived l.part l.rows (partition_of a.key l.self.place.config.parts)) a.key } in
-    l.collected ++ map row (filter (λ a. reads a.mode) (drop l.access-index l.access-items)) ≡ map row (filter (λ a. reads a.mode) l.access-items)
+    map as_read l.collected.items ++ map row (filter (λ a. reads a.mode) (drop l.access-index l.access-items)) ≡ map row (filter (λ a. reads a.mode) l.access-items)

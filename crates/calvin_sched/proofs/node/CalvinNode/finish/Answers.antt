@@ -63,6 +63,7 @@ returns-clause-stands c = λ ms stands suits.
       sequencer = stands.sequencer;
       fit = ((q, suits), stands.fit);
       numbers = stands.numbers;
+      counts = stands.counts;
       batches = batches_kept s v a.part ms stands.fit x q rows suits n.batches stands.batches;
       locks = locks_left s v a.part ms stands.fit x q rows suits done n.locks c.leave.new.self stands.locks (λ key. c.leave.ensures key ∙ ap (λ l. left_by x l key (queue_at n.locks key)) (c.as_slice-4.ensures ∙ c.in_ok-here.ensures));
       arrivals = arrivals_forgotten s a.part ms stands.fit x q rows suits n.arrivals stands.arrivals c.forget.new.self c.forget.ensures done;

@@ -1,16 +1,16 @@
-use Rattle.std.proofs.Common.{sym, subst}
-use Rattle.txn_program.specs.Serial.{program_of}
-use Rattle.txn_program.specs.declared.effects.Effect.{Effect}
-use Rattle.calvin_seq.specs.Placed.{RowsArePlaced}
-use Rattle.calvin_sched.proofs.Placing.{writes_placed, appends_placed}
+use Rattle.std.proofs.Common.{map, ap, ◌∙◌}
+use Rattle.std.proofs.lemmas.Result.{IfOk-weaker}
+use Rattle.txn_program.specs.Transactions.{as_read}
+use Rattle.server_core.specs.Effects.{leaves}
+use Rattle.calvin_seq.specs.Places.{setting_of}
+use Rattle.calvin_sched.specs.Reading.{left_at}
+use Rattle.calvin_sched.proofs.Leaving.{leaves_at}
 use Rattle.calvin_sched.proofs.node.CalvinNode.left_here.Goals as goal
 
-pub lasting_here-requires-clause-writes : goal.lasting_here-requires-clause-writes
-lasting_here-requires-clause-writes c =
-    let w = c.args.self.now.place.work.now in
-    subst (λ (e : Effect). RowsArePlaced e.writes) (sym c.in_ok-effect.ensures) (writes_placed w.load c.args.id (program_of w c.args.id) c.in_ok-collected.collected)
-
-pub lasting_here-requires-clause-appends : goal.lasting_here-requires-clause-appends
-lasting_here-requires-clause-appends c =
-    let w = c.args.self.now.place.work.now in
-    subst (λ (e : Effect). RowsArePlaced e.appends) (sym c.in_ok-effect.ensures) (appends_placed w.load c.args.id (program_of w c.args.id) c.in_ok-collected.collected)
+pub returns : goal.returns
+returns c =
+    let a = c.args.self.now.place in
+    let s = setting_of a in
+    IfOk-weaker c.lasting.result _ _
+    (λ left is. is ∙ ap leaves c.in_ok-effect.ensures ∙ leaves_at a.config.parts a.part (s.effect c.args.id (map as_read c.deref.result.now)) ∙ ap (λ l. left_at s a.part c.args.id (map as_read l)) c.deref.ensures.value ∙ ap (left_at s a.part c.args.id) c.in_ok-collected.ensures)
+    c.lasting.ensures

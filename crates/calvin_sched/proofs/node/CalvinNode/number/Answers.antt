@@ -4,7 +4,7 @@ use Rattle.txn_program.specs.Serial.{all_ids}
 use Rattle.txn_program.proofs.Ids.{id_between}
 use Rattle.server_core.specs.GlobalOrder.{number}
 use Rattle.calvin_seq.specs.Places.{setting_of}
-use Rattle.calvin_sched.proofs.FreedSteps.{number_at}
+use Rattle.calvin_sched.proofs.FreedSteps.{own_at}
 use Rattle.calvin_sched.proofs.node.CalvinNode.number.Goals as goal
 
 pub overflow_sub-id : goal.overflow_sub-id
@@ -20,4 +20,4 @@ index-requires c =
 pub returns : goal.returns
 returns c =
     let p = c.args.self.now.place in
-    number_at p.work.now (number (setting_of p)) c.args.self.now.numbers.items c.args.id c.index.result.now c.requires.numbers c.requires.id c.index.ensures
+    own_at p.work.now (number (setting_of p)) c.args.self.now.numbers.items c.args.id c.index.result.now c.requires.numbers c.requires.id c.index.ensures

@@ -1,11 +1,11 @@
-use Rattle.std.proofs.Common.{◌≡◌, ℕ, sym, ap, ap₂, ◌∙◌, ◌*◌, refl, map, replicate, Option, None, option_map, List}
+use Rattle.std.proofs.Common.{◌≡◌, ℕ, sym, ap, ap₂, ◌∙◌, ◌*◌, refl, map, length, replicate, Option, None, option_map, List}
 use Rattle.deneva_base.specs.declared.numbers.TxnId.{TxnId}
 use Rattle.row_store.specs.Stores.{loaded}
 use Rattle.txn_program.specs.Serial.{all_ids}
 use Rattle.server_core.specs.CalvinProper.{Valid}
 use Rattle.server_core.specs.Roles.{Role}
 use Rattle.server_core.specs.GlobalOrder.{epochs, number}
-use Rattle.server_core.specs.Setting.{Setting, setting, loaded_at}
+use Rattle.server_core.specs.Setting.{Setting, setting, loaded_at, parts_for}
 use Rattle.server_core.proofs.CalvinSettings as calvin
 use Rattle.calvin_seq.specs.Places.{role_of, setting_of}
 use Rattle.calvin_sched.proofs.Nodes.{batches_first, locks_first, arrivals_first, versions_first}
@@ -24,6 +24,7 @@ returns-clause-stands c =
       sequencer = c.in_ok-begin.ensures ∙ sym role;
       fit = tt;
       numbers = c.in_ok-numbers_of.ensures c.args.config refl ∙ ap (λ (r : Role). map (number (setting r.config r.work)) (all_ids r.work)) (sym role);
+      counts = c.in_ok-participant_counts.ensures c.args.config refl ∙ ap (λ (r : Role). map (λ x. length (parts_for (setting r.config r.work) x)) (all_ids r.work)) (sym role);
       batches = batches_first s v a.part c.in_ok-begin-2.field-0 (c.in_ok-begin-2.ensures.0 ∙ ap (λ (n : ℕ). replicate {A = Option (List TxnId)} n None) count) c.in_ok-begin-2.ensures.1;
       locks = locks_first s v a.part c.new-2.result c.new-2.ensures;
       arrivals = arrivals_first s v a.part c.new-3.result c.new-3.ensures;

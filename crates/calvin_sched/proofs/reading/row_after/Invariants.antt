@@ -1,7 +1,0 @@
-use Rattle.std.proofs.Common.{◌≡◌, drop}
-use Rattle.deneva_base.specs.Rows.{row_of}
-use Rattle.calvin_sched.proofs.reading.row_after.Given as goal
-
--- the row is in what is left
-abbrev pub invariant-loop-keyed : goal.invariant-loop-keyed
-invariant-loop-keyed l = row_of (drop l.keyed-index l.left) l.key ≡ row_of l.left l.key
