@@ -19,7 +19,9 @@ cat >"$work/crates/store_bench/src/main.rt" <<'RATTLE'
 //! Times a store of one million rows.
 #![tactic(auto)]
 
-use deneva_base::{ByteList, Cell, Key, NoMemory, Number, PushNoMemory, Row, RowList, TxnId};
+use deneva_base::{
+    ByteList, Cell, CellList, Key, NoMemory, Number, PushNoMemory, Row, RowList, TxnId,
+};
 use row_store::Store;
 use std::alloc::Global;
 use std::io;
@@ -64,9 +66,9 @@ fn key_of(a: u32) -> Key {
 }
 
 fn row_of(alloc: Global, text: &[u8; 8]) -> Result<Row, Failed> {
-    let mut row = Row::with_capacity(alloc, 1)?;
-    row.push(Cell::Text(ByteList::from_bytes(alloc, text)?))?;
-    Ok(row)
+    let mut cells = CellList::with_capacity(alloc, 1)?;
+    cells.push(Cell::Text(ByteList::from_bytes(alloc, text)?))?;
+    Ok(Row::of(alloc, cells)?)
 }
 
 /// The place after this one in a shuffled order of all places.
