@@ -14,7 +14,7 @@ use Rattle.deneva_base.specs.Lists.{IsIn}
 use Rattle.deneva_base.specs.Modes.{reads}
 use Rattle.deneva_base.specs.Partitions.{partition_of}
 use Rattle.deneva_base.specs.Rows.{Row, row_of, row_or_empty}
-use Rattle.deneva_base.proofs.Words.{filter_in, in_map_from}
+use Rattle.deneva_base.proofs.Membership.{filter_in, in_map_from}
 use Rattle.txn_program.specs.Transactions.{reading}
 use Rattle.txn_program.specs.Valid.{IsValid}
 use Rattle.txn_program.specs.declared.programs.Workload.{Workload}

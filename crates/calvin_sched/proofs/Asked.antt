@@ -9,7 +9,7 @@ use Rattle.deneva_base.specs.Lists.{IsIn}
 use Rattle.deneva_base.specs.Keys.{key_eq, id_eq}
 use Rattle.deneva_base.specs.Modes.{writes}
 use Rattle.deneva_base.specs.Partitions.{partition_of}
-use Rattle.deneva_base.proofs.Words.{key_tells, in_filter, filter_in, in_map_from, any_at, any_found, and_parts, and_true}
+use Rattle.deneva_base.proofs.Membership.{key_tells, in_filter, filter_in, in_map_from, any_at, any_found, and_parts, and_true}
 use Rattle.server_core.specs.Setting.{Setting}
 use Rattle.server_core.specs.Ordered.{takes_part, collide, clash}
 use Rattle.server_core.specs.GlobalOrder.{before}

@@ -7,7 +7,7 @@ use Rattle.std.proofs.lemmas.List.{drop-map, length-map}
 use Rattle.deneva_base.specs.declared.numbers.TxnId.{TxnId}
 use Rattle.deneva_base.specs.declared.keys.Key.{Key}
 use Rattle.deneva_base.specs.Lists.{IsIn}
-use Rattle.deneva_base.proofs.Words.{and_parts, and_true, filter_in, in_filter, in_right}
+use Rattle.deneva_base.proofs.Membership.{and_parts, and_true, filter_in, in_filter, in_right}
 use Rattle.server_core.specs.ActiveList.{active, became, past, newly_taken}
 use Rattle.server_core.specs.Calvin.{became_ready}
 use Rattle.server_core.specs.CalvinFits.{AllFit}

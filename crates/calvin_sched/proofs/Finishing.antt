@@ -10,7 +10,7 @@ use Rattle.deneva_base.specs.Keys.{id_eq, key_eq}
 use Rattle.deneva_base.specs.Lists.{IsIn}
 use Rattle.deneva_base.specs.Modes.{writes}
 use Rattle.deneva_base.specs.Partitions.{partition_of}
-use Rattle.deneva_base.proofs.Words.{key_tells, in_filter, filter_in, in_map, in_map_from, any_found, and_parts, and_true}
+use Rattle.deneva_base.proofs.Membership.{key_tells, in_filter, filter_in, in_map, in_map_from, any_found, and_parts, and_true}
 use Rattle.server_core.specs.ActiveList.{active, is_first, became, without}
 use Rattle.server_core.specs.Calvin.{became_ready}
 use Rattle.server_core.specs.CalvinFits.{Suits, AllFit}

@@ -14,7 +14,7 @@ use Rattle.deneva_base.specs.declared.keys.Access.{Access}
 use Rattle.deneva_base.specs.declared.keys.Key.{Key}
 use Rattle.deneva_base.specs.declared.numbers.Number.{Number}
 use Rattle.deneva_base.specs.declared.numbers.TxnId.{TxnId}
-use Rattle.deneva_base.proofs.Words.{in_map_from, filter_in}
+use Rattle.deneva_base.proofs.Membership.{in_map_from, filter_in}
 use Rattle.txn_program.specs.Serial.{all_ids, ids_from}
 use Rattle.txn_program.specs.declared.programs.Program.{Program}
 use Rattle.txn_program.specs.declared.programs.Workload.{Workload}

@@ -8,7 +8,7 @@ use Rattle.deneva_base.specs.Keys.{key_eq}
 use Rattle.deneva_base.specs.Lists.{IsIn}
 use Rattle.deneva_base.specs.Partitions.{partition_of}
 use Rattle.deneva_base.specs.Rows.{Row, row_of}
-use Rattle.deneva_base.proofs.Words.{and_parts, filter_in, key_tells}
+use Rattle.deneva_base.proofs.Membership.{and_parts, filter_in, key_tells}
 use Rattle.txn_program.specs.Apart.{DistinctBy}
 use Rattle.txn_program.specs.Valid.{IsValid, is_valid_row}
 use Rattle.txn_program.specs.declared.programs.Workload.{Workload}

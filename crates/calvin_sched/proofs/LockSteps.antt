@@ -8,7 +8,7 @@ use Rattle.deneva_base.specs.Keys.{key_eq}
 use Rattle.deneva_base.specs.declared.keys.Key.{Key}
 use Rattle.deneva_base.specs.declared.keys.Access.{Access}
 use Rattle.deneva_base.specs.declared.numbers.TxnId.{TxnId}
-use Rattle.deneva_base.proofs.Words.{key_tells}
+use Rattle.deneva_base.proofs.Membership.{key_tells}
 use Rattle.row_store.proofs.Tables.{same_key-key_eq}
 use Rattle.calvin_sched.specs.Queues.{for_key, without_first, left_by}
 use Rattle.calvin_sched.specs.Tables.{same_key, queue_in, queue_at, SetsQueue}

@@ -4,7 +4,7 @@ use Rattle.std.specs.Prelude.{slice_set, option_map}
 use Rattle.std.specs.List.{flat_map}
 use Rattle.deneva_base.specs.Lists.{IsIn}
 use Rattle.deneva_base.specs.Partitions.{partition_of}
-use Rattle.deneva_base.specs.Protocols.{chosen}
+use Rattle.protocol_rules.specs.Protocols.{chosen}
 use Rattle.deneva_base.specs.declared.config.Protocol.{Protocol}
 use Rattle.deneva_base.specs.declared.keys.Key.{Key}
 use Rattle.deneva_base.specs.declared.numbers.Number.{Number}

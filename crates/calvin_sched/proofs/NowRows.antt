@@ -11,7 +11,7 @@ use Rattle.deneva_base.specs.Lists.{IsIn}
 use Rattle.deneva_base.specs.Modes.{reads}
 use Rattle.deneva_base.specs.Partitions.{partition_of}
 use Rattle.deneva_base.specs.Rows.{Rows as Table, row_or_empty}
-use Rattle.deneva_base.proofs.Words.{filter_in}
+use Rattle.deneva_base.proofs.Membership.{filter_in}
 use Rattle.txn_program.specs.Transactions.{reading}
 use Rattle.txn_program.specs.Valid.{IsValid}
 use Rattle.txn_program.specs.declared.programs.Workload.{Workload}

@@ -8,7 +8,7 @@ use Rattle.deneva_base.specs.Keys.{NumberLt, number_cmp}
 use Rattle.deneva_base.specs.Lists.{IsIn}
 use Rattle.deneva_base.specs.declared.numbers.Number.{Number}
 use Rattle.deneva_base.specs.declared.numbers.TxnId.{TxnId}
-use Rattle.deneva_base.proofs.Words.{in_map, number_decides}
+use Rattle.deneva_base.proofs.Membership.{in_map, number_decides}
 use Rattle.server_core.specs.CalvinSerial.{RisingIds}
 use Rattle.server_core.specs.GlobalOrder.{number}
 use Rattle.server_core.specs.Setting.{Setting}

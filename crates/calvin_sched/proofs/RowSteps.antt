@@ -6,7 +6,7 @@ use Rattle.deneva_base.specs.Rows.{Row, row_of}
 use Rattle.deneva_base.specs.declared.keys.Key.{Key}
 use Rattle.deneva_base.specs.declared.numbers.Number.{Number}
 use Rattle.deneva_base.specs.declared.rows.Keyed.{Keyed}
-use Rattle.deneva_base.proofs.Words.{key_tells}
+use Rattle.deneva_base.proofs.Membership.{key_tells}
 use Rattle.row_store.specs.Stores.{Seen, version_at, Sets, newest, numbered}
 use Rattle.row_store.specs.declared.versions.Version.{Version}
 use Rattle.calvin_sched.specs.Versions.{offered}

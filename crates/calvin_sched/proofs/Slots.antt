@@ -5,7 +5,7 @@ use Rattle.std.proofs.lemmas.Bool.Decides.{eqb_tells}
 use Rattle.std.proofs.lemmas.Grind.{flat_map-append}
 use Rattle.std.proofs.lemmas.List.{map-append, length-map, length-append, set-append_left, set-append_right, append-nil}
 use Rattle.deneva_base.specs.Lists.{IsIn}
-use Rattle.deneva_base.proofs.Words.{in_cases, in_map_from}
+use Rattle.deneva_base.proofs.Membership.{in_cases, in_map_from}
 use Rattle.txn_program.specs.Transactions.{numbers_below}
 use Rattle.server_core.specs.GlobalOrder.{Slot, slots_of}
 use Rattle.server_core.proofs.OrderedBounds.{below_length}

@@ -9,12 +9,12 @@ use Rattle.deneva_base.specs.declared.keys.Access.{Access}
 use Rattle.deneva_base.specs.declared.numbers.TxnId.{TxnId}
 use Rattle.deneva_base.specs.declared.numbers.Number.{Number}
 use Rattle.deneva_base.specs.declared.rows.Keyed.{Keyed}
-use Rattle.deneva_base.specs.Conditions.{Distinct}
+use Rattle.protocol_rules.specs.Conditions.{Distinct}
 use Rattle.deneva_base.specs.Keys.{NumberLt, key_eq, id_eq, number_lt, loaded_version}
 use Rattle.deneva_base.specs.Lists.{IsIn}
 use Rattle.deneva_base.specs.Partitions.{partition_of}
 use Rattle.deneva_base.specs.Rows.{Row, Rows as Table, row_of, row_at, put_row, put_rows}
-use Rattle.deneva_base.proofs.Words.{in_right, in_cases, filter_in, key_tells, number_decides}
+use Rattle.deneva_base.proofs.Membership.{in_right, in_cases, filter_in, key_tells, number_decides}
 use Rattle.deneva_base.proofs.PutRows.{row_of-none}
 use Rattle.txn_program.specs.InWorkload.{effect_in}
 use Rattle.txn_program.specs.Transactions.{reading}

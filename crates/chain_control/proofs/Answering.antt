@@ -17,21 +17,21 @@ use Rattle.deneva_base.specs.Lists.{IsIn, greatest_by}
 use Rattle.deneva_base.specs.Rows.{Row, Rows, row_or_empty}
 use Rattle.deneva_base.specs.Keys.{key_eq, loaded_version}
 use Rattle.deneva_base.specs.Modes.{reads, writes}
-use Rattle.deneva_base.specs.Conditions.{MayAsk, MayPrepare}
-use Rattle.deneva_base.specs.History.{Ask, Prepare, Commit, Abort, History, Asked, asks, grants, waits, left_waiting, is_woken, yeas, IsUnended, stamp_of}
-use Rattle.deneva_base.specs.Latest.{Version, latest, seen}
-use Rattle.deneva_base.specs.Rules.{Obeys}
-use Rattle.deneva_base.specs.Versions.{start, below}
-use Rattle.deneva_base.specs.Waiting.{this, as_asked, holders, granted_with}
-use Rattle.deneva_base.specs.Mvcc.{as_great, floor, top_reader, writer_between, mvcc}
-use Rattle.deneva_base.proofs.Words.{key_decides, attempt_tells, and_true, and_parts, any_at, any_found}
-use Rattle.deneva_base.proofs.Sound.{Sound, writes_found}
-use Rattle.deneva_base.proofs.Known.{Known}
-use Rattle.deneva_base.proofs.Traced.{Traced}
-use Rattle.deneva_base.proofs.Marks.{stamp_is}
-use Rattle.deneva_base.proofs.Stops.{held_from, in_held}
-use Rattle.deneva_base.proofs.Belows.{greatest_le}
-use Rattle.deneva_base.proofs.Timestamps.{top_by}
+use Rattle.protocol_rules.specs.Conditions.{MayAsk, MayPrepare}
+use Rattle.protocol_rules.specs.History.{Ask, Prepare, Commit, Abort, History, Asked, asks, grants, waits, left_waiting, is_woken, yeas, IsUnended, stamp_of}
+use Rattle.protocol_rules.specs.Latest.{Version, latest, seen}
+use Rattle.protocol_rules.specs.Rules.{Obeys}
+use Rattle.protocol_rules.specs.Versions.{start, below}
+use Rattle.protocol_rules.specs.Waiting.{this, as_asked, holders, granted_with}
+use Rattle.protocol_rules.specs.Mvcc.{as_great, floor, top_reader, writer_between, mvcc}
+use Rattle.deneva_base.proofs.Membership.{key_decides, attempt_tells, and_true, and_parts, any_at, any_found}
+use Rattle.protocol_rules.proofs.Sound.{Sound, writes_found}
+use Rattle.protocol_rules.proofs.Known.{Known}
+use Rattle.protocol_rules.proofs.Traced.{Traced}
+use Rattle.protocol_rules.proofs.Marks.{stamp_is}
+use Rattle.protocol_rules.proofs.Stops.{held_from, in_held}
+use Rattle.protocol_rules.proofs.Belows.{greatest_le}
+use Rattle.protocol_rules.proofs.Timestamps.{top_by}
 use Rattle.row_store.specs.declared.versions.Version.{Version as StoredVersion}
 use Rattle.row_store.specs.Stores.{Seen, version_at, row_in}
 use Rattle.control_core.specs.Leaving.{IsLoadedStore}

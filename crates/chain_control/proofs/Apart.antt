@@ -9,18 +9,18 @@ use Rattle.deneva_base.specs.declared.answers.Wake.{Wake}
 use Rattle.deneva_base.specs.Lists.{IsIn}
 use Rattle.deneva_base.specs.Rows.{Row, Rows}
 use Rattle.deneva_base.specs.Keys.{number_lt, number_eq}
-use Rattle.deneva_base.specs.History.{Ask, Prepare, Commit, Abort, History, yeas, ended, aborted}
-use Rattle.deneva_base.specs.Latest.{Version, row_for, writes_in}
-use Rattle.deneva_base.specs.Rules.{Obeys}
-use Rattle.deneva_base.specs.Versions.{version_of, written, start, greatest, below}
-use Rattle.deneva_base.specs.Mvcc.{versions, mvcc}
-use Rattle.deneva_base.proofs.Sound.{sound, row_found, writes_found}
-use Rattle.deneva_base.proofs.Known.{known}
-use Rattle.deneva_base.proofs.Traced.{traced}
-use Rattle.deneva_base.proofs.Belows.{listed, below_cases}
-use Rattle.deneva_base.proofs.Marks.{marked, stamps_differ}
-use Rattle.deneva_base.proofs.Mvccs.{writer_of, owned, late, stamping}
-use Rattle.deneva_base.proofs.Stamping.{wakes_law}
+use Rattle.protocol_rules.specs.History.{Ask, Prepare, Commit, Abort, History, yeas, ended, aborted}
+use Rattle.protocol_rules.specs.Latest.{Version, row_for, writes_in}
+use Rattle.protocol_rules.specs.Rules.{Obeys}
+use Rattle.protocol_rules.specs.Versions.{version_of, written, start, greatest, below}
+use Rattle.protocol_rules.specs.Mvcc.{versions, mvcc}
+use Rattle.protocol_rules.proofs.Sound.{sound, row_found, writes_found}
+use Rattle.protocol_rules.proofs.Known.{known}
+use Rattle.protocol_rules.proofs.Traced.{traced}
+use Rattle.protocol_rules.proofs.Belows.{listed, below_cases}
+use Rattle.protocol_rules.proofs.Marks.{marked, stamps_differ}
+use Rattle.protocol_rules.proofs.Mvccs.{writer_of, owned, late, stamping}
+use Rattle.protocol_rules.proofs.Stamping.{wakes_law}
 
 -- versions that differ in their n
 abbrev pub Apart : List Version → Type 0

@@ -10,11 +10,11 @@ use Rattle.deneva_base.specs.declared.answers.Answer.TheVariants.{Granted, Waits
 use Rattle.deneva_base.specs.declared.answers.Vote.TheVariants.{Yes}
 use Rattle.deneva_base.specs.Lists.{greatest_by}
 use Rattle.deneva_base.specs.Rows.{Row, Rows}
-use Rattle.deneva_base.specs.Conditions.{MayAsk, MayPrepare}
-use Rattle.deneva_base.specs.History.{Ask, Prepare, History}
-use Rattle.deneva_base.specs.Versions.{below}
-use Rattle.deneva_base.specs.Waiting.{this}
-use Rattle.deneva_base.specs.Mvcc.{mvcc}
+use Rattle.protocol_rules.specs.Conditions.{MayAsk, MayPrepare}
+use Rattle.protocol_rules.specs.History.{Ask, Prepare, History}
+use Rattle.protocol_rules.specs.Versions.{below}
+use Rattle.protocol_rules.specs.Waiting.{this}
+use Rattle.protocol_rules.specs.Mvcc.{mvcc}
 use Rattle.chain_control.specs.declared.requests.Request.{Request}
 use Rattle.chain_control.specs.declared.table.Table.{Table}
 use Rattle.chain_control.specs.Chains.{Chain, refusal}

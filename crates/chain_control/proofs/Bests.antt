@@ -9,20 +9,20 @@ use Rattle.deneva_base.specs.declared.numbers.Number.{Number}
 use Rattle.deneva_base.specs.Lists.{IsIn}
 use Rattle.deneva_base.specs.Rows.{Rows}
 use Rattle.deneva_base.specs.Keys.{key_eq, number_lt, number_eq}
-use Rattle.deneva_base.specs.Conditions.{MayAsk}
-use Rattle.deneva_base.specs.History.{History, Asked, waits, ended, aborted}
-use Rattle.deneva_base.specs.Latest.{Version}
-use Rattle.deneva_base.specs.Rules.{Obeys}
-use Rattle.deneva_base.specs.Versions.{written, below}
-use Rattle.deneva_base.specs.Mvcc.{versions, as_great, nth_greatest, floor, mvcc}
-use Rattle.deneva_base.proofs.Words.{in_map, in_map_from, in_filter, filter_in, and_true, any_at, attempt_tells, key_decides}
-use Rattle.deneva_base.proofs.Sound.{sound}
-use Rattle.deneva_base.proofs.Known.{known}
-use Rattle.deneva_base.proofs.Traced.{traced}
-use Rattle.deneva_base.proofs.Belows.{listed, below_over, below_under, not_above}
-use Rattle.deneva_base.proofs.Marks.{marked}
-use Rattle.deneva_base.proofs.Mvccs.{writer_of, owned, stamping}
-use Rattle.deneva_base.proofs.Stamping.{wakes_law}
+use Rattle.protocol_rules.specs.Conditions.{MayAsk}
+use Rattle.protocol_rules.specs.History.{History, Asked, waits, ended, aborted}
+use Rattle.protocol_rules.specs.Latest.{Version}
+use Rattle.protocol_rules.specs.Rules.{Obeys}
+use Rattle.protocol_rules.specs.Versions.{written, below}
+use Rattle.protocol_rules.specs.Mvcc.{versions, as_great, nth_greatest, floor, mvcc}
+use Rattle.deneva_base.proofs.Membership.{in_map, in_map_from, in_filter, filter_in, and_true, any_at, attempt_tells, key_decides}
+use Rattle.protocol_rules.proofs.Sound.{sound}
+use Rattle.protocol_rules.proofs.Known.{known}
+use Rattle.protocol_rules.proofs.Traced.{traced}
+use Rattle.protocol_rules.proofs.Belows.{listed, below_over, below_under, not_above}
+use Rattle.protocol_rules.proofs.Marks.{marked}
+use Rattle.protocol_rules.proofs.Mvccs.{writer_of, owned, stamping}
+use Rattle.protocol_rules.proofs.Stamping.{wakes_law}
 use Rattle.chain_control.specs.declared.links.Link.{Link}
 use Rattle.chain_control.specs.Links.{later_link, link_below}
 use Rattle.chain_control.specs.Kept.{in_order, awaited, is_kept, kept}

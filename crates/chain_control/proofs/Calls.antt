@@ -11,23 +11,23 @@ use Rattle.deneva_base.specs.Lists.{IsIn, sort}
 use Rattle.deneva_base.specs.Rows.{Row, Rows}
 use Rattle.deneva_base.specs.Keys.{number_lt}
 use Rattle.deneva_base.specs.Modes.{IsReading}
-use Rattle.deneva_base.specs.Conditions.{MayCommit, MayAbort}
-use Rattle.deneva_base.specs.History.{Commit, Abort, History, Asked, grants, waits, yeas, closed, grant_of_wake, is_woken, IsUnended, WaitsNowhere}
-use Rattle.deneva_base.specs.Latest.{Version, latest, newer, seen, row_for, writes_in}
-use Rattle.deneva_base.specs.Leaving.{later, left_in, rows_left}
-use Rattle.deneva_base.specs.Order.{by_rising_stamp}
-use Rattle.deneva_base.specs.Versions.{version_of as version_list, written, start, greatest, below}
-use Rattle.deneva_base.specs.Waiting.{goes, wake_of}
-use Rattle.deneva_base.specs.Mvcc.{writer_between, mvcc}
-use Rattle.deneva_base.specs.Wakes.{KeepsWakes}
-use Rattle.deneva_base.proofs.Words.{filter_in, reading_decides}
-use Rattle.deneva_base.proofs.Sound.{Sound, sound}
-use Rattle.deneva_base.proofs.Known.{Known, known, known_more}
-use Rattle.deneva_base.proofs.Traced.{Traced, traced}
-use Rattle.deneva_base.proofs.Sorts.{Distinct, sort_in}
-use Rattle.deneva_base.proofs.Wakes.{distinct_waits}
-use Rattle.deneva_base.proofs.Mvccs.{stamping}
-use Rattle.deneva_base.proofs.Stamping.{wakes_law, waits_law, windows_law, commit_keys, abort_keys}
+use Rattle.protocol_rules.specs.Conditions.{MayCommit, MayAbort}
+use Rattle.protocol_rules.specs.History.{Commit, Abort, History, Asked, grants, waits, yeas, closed, grant_of_wake, is_woken, IsUnended, WaitsNowhere}
+use Rattle.protocol_rules.specs.Latest.{Version, latest, newer, seen, row_for, writes_in}
+use Rattle.protocol_rules.specs.Leaving.{later, left_in, rows_left}
+use Rattle.protocol_rules.specs.Order.{by_rising_stamp}
+use Rattle.protocol_rules.specs.Versions.{version_of as version_list, written, start, greatest, below}
+use Rattle.protocol_rules.specs.Waiting.{goes, wake_of}
+use Rattle.protocol_rules.specs.Mvcc.{writer_between, mvcc}
+use Rattle.protocol_rules.specs.Wakes.{KeepsWakes}
+use Rattle.deneva_base.proofs.Membership.{filter_in, reading_decides}
+use Rattle.protocol_rules.proofs.Sound.{Sound, sound}
+use Rattle.protocol_rules.proofs.Known.{Known, known, known_more}
+use Rattle.protocol_rules.proofs.Traced.{Traced, traced}
+use Rattle.protocol_rules.proofs.Sorts.{Distinct, sort_in}
+use Rattle.protocol_rules.proofs.Wakes.{distinct_waits}
+use Rattle.protocol_rules.proofs.Mvccs.{stamping}
+use Rattle.protocol_rules.proofs.Stamping.{wakes_law, waits_law, windows_law, commit_keys, abort_keys}
 use Rattle.row_store.specs.declared.versions.Version.{Version as StoredVersion}
 use Rattle.row_store.specs.Stores.{version_at, has, row_in}
 use Rattle.control_core.specs.Leaving.{last}

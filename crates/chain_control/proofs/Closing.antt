@@ -10,18 +10,18 @@ use Rattle.deneva_base.specs.Lists.{IsIn, sort}
 use Rattle.deneva_base.specs.Rows.{Row, Rows}
 use Rattle.deneva_base.specs.Keys.{key_eq}
 use Rattle.deneva_base.specs.Modes.{IsReading}
-use Rattle.deneva_base.specs.History.{History, Asked, grants, waits, yeas, grant_of_wake, is_woken}
-use Rattle.deneva_base.specs.Latest.{Version, latest, row_for, writes_in}
-use Rattle.deneva_base.specs.Order.{by_rising_stamp}
-use Rattle.deneva_base.specs.Rules.{Obeys}
-use Rattle.deneva_base.specs.Versions.{written, start}
-use Rattle.deneva_base.specs.Waiting.{holders, holds, goes, wake_of}
-use Rattle.deneva_base.specs.Mvcc.{nth_greatest, floor, writer_between, mvcc}
-use Rattle.deneva_base.proofs.Words.{in_map_from, filter_in, any_tells, key_decides}
-use Rattle.deneva_base.proofs.Sound.{Sound}
-use Rattle.deneva_base.proofs.Known.{Known}
-use Rattle.deneva_base.proofs.Sorts.{Distinct, sort_in}
-use Rattle.deneva_base.proofs.Woken.{woken_in, in_woken}
+use Rattle.protocol_rules.specs.History.{History, Asked, grants, waits, yeas, grant_of_wake, is_woken}
+use Rattle.protocol_rules.specs.Latest.{Version, latest, row_for, writes_in}
+use Rattle.protocol_rules.specs.Order.{by_rising_stamp}
+use Rattle.protocol_rules.specs.Rules.{Obeys}
+use Rattle.protocol_rules.specs.Versions.{written, start}
+use Rattle.protocol_rules.specs.Waiting.{holders, holds, goes, wake_of}
+use Rattle.protocol_rules.specs.Mvcc.{nth_greatest, floor, writer_between, mvcc}
+use Rattle.deneva_base.proofs.Membership.{in_map_from, filter_in, any_tells, key_decides}
+use Rattle.protocol_rules.proofs.Sound.{Sound}
+use Rattle.protocol_rules.proofs.Known.{Known}
+use Rattle.protocol_rules.proofs.Sorts.{Distinct, sort_in}
+use Rattle.protocol_rules.proofs.Woken.{woken_in, in_woken}
 use Rattle.row_store.specs.declared.versions.Version.{Version as StoredVersion}
 use Rattle.control_core.specs.Leaving.{last}
 use Rattle.control_core.proofs.Lasts.{last_latest}

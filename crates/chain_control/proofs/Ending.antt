@@ -11,13 +11,13 @@ use Rattle.deneva_base.specs.declared.answers.Vote.TheVariants.{Yes, No}
 use Rattle.deneva_base.specs.Lists.{IsIn}
 use Rattle.deneva_base.specs.Rows.{Row, Rows}
 use Rattle.deneva_base.specs.Keys.{key_eq, attempt_eq, number_lt}
-use Rattle.deneva_base.specs.History.{Ask, Prepare, Commit, Abort, History, Asked, Grant, Yea, grants, waits, yeas, ended, closed, IsUnended, WaitsNowhere, is_woken}
-use Rattle.deneva_base.specs.Latest.{row_for, writes_in, has_ended}
-use Rattle.deneva_base.specs.Rules.{Rule, Obeys}
-use Rattle.deneva_base.specs.Versions.{below}
-use Rattle.deneva_base.specs.Leaving.{later, left_in as rows_in_vote}
-use Rattle.deneva_base.proofs.Words.{in_map, in_map_from, any_at, attempt_tells, attempt_decides}
-use Rattle.deneva_base.proofs.Sound.{Sound, row_found, writes_found}
+use Rattle.protocol_rules.specs.History.{Ask, Prepare, Commit, Abort, History, Asked, Grant, Yea, grants, waits, yeas, ended, closed, IsUnended, WaitsNowhere, is_woken}
+use Rattle.protocol_rules.specs.Latest.{row_for, writes_in, has_ended}
+use Rattle.protocol_rules.specs.Rules.{Rule, Obeys}
+use Rattle.protocol_rules.specs.Versions.{below}
+use Rattle.protocol_rules.specs.Leaving.{later, left_in as rows_in_vote}
+use Rattle.deneva_base.proofs.Membership.{in_map, in_map_from, any_at, attempt_tells, attempt_decides}
+use Rattle.protocol_rules.proofs.Sound.{Sound, row_found, writes_found}
 use Rattle.row_store.specs.declared.versions.Version.{Version as StoredVersion}
 use Rattle.row_store.specs.Stores.{newest}
 use Rattle.control_core.specs.Leaving.{last}

@@ -7,13 +7,13 @@ use Rattle.deneva_base.specs.declared.numbers.Number.{Number}
 use Rattle.deneva_base.specs.Lists.{IsIn}
 use Rattle.deneva_base.specs.Rows.{Rows}
 use Rattle.deneva_base.specs.Keys.{key_eq, number_lt, number_eq}
-use Rattle.deneva_base.specs.History.{History, Asked, waits}
-use Rattle.deneva_base.specs.Latest.{Version}
-use Rattle.deneva_base.specs.Rules.{Obeys}
-use Rattle.deneva_base.specs.Versions.{below}
-use Rattle.deneva_base.specs.Mvcc.{versions, as_great, nth_greatest, floor, mvcc}
-use Rattle.deneva_base.proofs.Words.{in_filter, filter_in, and_parts}
-use Rattle.deneva_base.proofs.Timestamps.{top_by}
+use Rattle.protocol_rules.specs.History.{History, Asked, waits}
+use Rattle.protocol_rules.specs.Latest.{Version}
+use Rattle.protocol_rules.specs.Rules.{Obeys}
+use Rattle.protocol_rules.specs.Versions.{below}
+use Rattle.protocol_rules.specs.Mvcc.{versions, as_great, nth_greatest, floor, mvcc}
+use Rattle.deneva_base.proofs.Membership.{in_filter, filter_in, and_parts}
+use Rattle.protocol_rules.proofs.Timestamps.{top_by}
 use Rattle.chain_control.specs.Kept.{in_order, awaited, is_kept, kept}
 use Rattle.chain_control.proofs.Lists.{filter_all}
 use Rattle.chain_control.proofs.Apart.{Apart, apart_same, apart_versions}

@@ -7,13 +7,13 @@ use Rattle.deneva_base.specs.declared.numbers.Number.{Number}
 use Rattle.deneva_base.specs.Lists.{IsIn, greatest_by}
 use Rattle.deneva_base.specs.Rows.{Row, Rows}
 use Rattle.deneva_base.specs.Keys.{number_lt}
-use Rattle.deneva_base.specs.History.{History}
-use Rattle.deneva_base.specs.Latest.{Version}
-use Rattle.deneva_base.specs.Versions.{version_of, written, start}
-use Rattle.deneva_base.specs.Mvcc.{versions, as_great, nth_greatest}
-use Rattle.deneva_base.proofs.Words.{in_left, in_right}
-use Rattle.deneva_base.proofs.Belows.{greatest_le, not_above}
-use Rattle.deneva_base.proofs.Timestamps.{top_by}
+use Rattle.protocol_rules.specs.History.{History}
+use Rattle.protocol_rules.specs.Latest.{Version}
+use Rattle.protocol_rules.specs.Versions.{version_of, written, start}
+use Rattle.protocol_rules.specs.Mvcc.{versions, as_great, nth_greatest}
+use Rattle.deneva_base.proofs.Membership.{in_left, in_right}
+use Rattle.protocol_rules.proofs.Belows.{greatest_le, not_above}
+use Rattle.protocol_rules.proofs.Timestamps.{top_by}
 use Rattle.chain_control.specs.Kept.{in_order}
 use Rattle.chain_control.proofs.Lists.{greatest_same}
 

@@ -10,17 +10,17 @@ use Rattle.deneva_base.specs.declared.rows.Keyed.{Keyed}
 use Rattle.deneva_base.specs.Lists.{IsIn, sort}
 use Rattle.deneva_base.specs.Rows.{Rows}
 use Rattle.deneva_base.specs.Keys.{key_eq, key_lt, attempt_eq}
-use Rattle.deneva_base.specs.History.{History, Asked, Grant, grants, waits, yeas, IsUnended}
-use Rattle.deneva_base.specs.Latest.{row_for, writes_in}
-use Rattle.deneva_base.specs.Order.{Sorted, by_rising_stamp}
-use Rattle.deneva_base.specs.Versions.{below}
-use Rattle.deneva_base.specs.Waiting.{as_asked, holders, holds, goes}
-use Rattle.deneva_base.specs.Mvcc.{writer_between}
-use Rattle.deneva_base.proofs.Words.{in_cases, in_left, in_right, in_map, in_map_from, in_filter, filter_in, any_at, any_found, and_true, and_parts, key_tells, key_decides, attempt_tells, attempt_decides}
-use Rattle.deneva_base.proofs.Known.{Known}
-use Rattle.deneva_base.proofs.Sorts.{Distinct, distinct_filter, sort_in, in_sort, sorted_sort, sorted_unique, rising_trans, rising_irrefl}
-use Rattle.deneva_base.proofs.Stamped.{waits_total}
-use Rattle.deneva_base.proofs.Stops.{held_from, in_held}
+use Rattle.protocol_rules.specs.History.{History, Asked, Grant, grants, waits, yeas, IsUnended}
+use Rattle.protocol_rules.specs.Latest.{row_for, writes_in}
+use Rattle.protocol_rules.specs.Order.{Sorted, by_rising_stamp}
+use Rattle.protocol_rules.specs.Versions.{below}
+use Rattle.protocol_rules.specs.Waiting.{as_asked, holders, holds, goes}
+use Rattle.protocol_rules.specs.Mvcc.{writer_between}
+use Rattle.deneva_base.proofs.Membership.{in_cases, in_left, in_right, in_map, in_map_from, in_filter, filter_in, any_at, any_found, and_true, and_parts, key_tells, key_decides, attempt_tells, attempt_decides}
+use Rattle.protocol_rules.proofs.Known.{Known}
+use Rattle.protocol_rules.proofs.Sorts.{Distinct, distinct_filter, sort_in, in_sort, sorted_sort, sorted_unique, rising_trans, rising_irrefl}
+use Rattle.protocol_rules.proofs.Stamped.{waits_total}
+use Rattle.protocol_rules.proofs.Stops.{held_from, in_held}
 use Rattle.chain_control.specs.declared.requests.Request.{Request}
 use Rattle.chain_control.specs.declared.lines.Lines.{Lines}
 use Rattle.chain_control.specs.Requests.{stands_between, waiter_for}

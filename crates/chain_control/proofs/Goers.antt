@@ -8,7 +8,7 @@ use Rattle.deneva_base.specs.declared.numbers.Number.{Number}
 use Rattle.deneva_base.specs.Lists.{IsIn}
 use Rattle.deneva_base.specs.Keys.{attempt_eq}
 use Rattle.deneva_base.specs.Modes.{writes}
-use Rattle.deneva_base.proofs.Words.{any_at, any_found, and_true, and_parts}
+use Rattle.deneva_base.proofs.Membership.{any_at, any_found, and_true, and_parts}
 use Rattle.chain_control.specs.declared.requests.Request.{Request}
 use Rattle.chain_control.specs.Requests.{raised, stands_between, past_with, goes_past, writer_after, waiter_for}
 use Rattle.chain_control.specs.Chains.{goers_after}

@@ -10,11 +10,11 @@ use Rattle.deneva_base.specs.declared.answers.Answer.TheVariants.{Granted, Waits
 use Rattle.deneva_base.specs.Rows.{Row, Rows}
 use Rattle.deneva_base.specs.Keys.{key_eq, number_eq}
 use Rattle.deneva_base.specs.Modes.{reads}
-use Rattle.deneva_base.specs.History.{Ask, History, waits}
-use Rattle.deneva_base.specs.Latest.{Version}
-use Rattle.deneva_base.specs.Versions.{below}
-use Rattle.deneva_base.specs.Mvcc.{floor, top_reader}
-use Rattle.deneva_base.proofs.Words.{key_tells}
+use Rattle.protocol_rules.specs.History.{Ask, History, waits}
+use Rattle.protocol_rules.specs.Latest.{Version}
+use Rattle.protocol_rules.specs.Versions.{below}
+use Rattle.protocol_rules.specs.Mvcc.{floor, top_reader}
+use Rattle.deneva_base.proofs.Membership.{key_tells}
 use Rattle.row_store.specs.declared.versions.Version.{Version as StoredVersion}
 use Rattle.row_store.specs.Stores.{version_at}
 use Rattle.chain_control.specs.declared.requests.Request.{Request}

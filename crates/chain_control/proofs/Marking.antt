@@ -6,14 +6,14 @@ use Rattle.deneva_base.specs.Lists.{IsIn, greatest_by}
 use Rattle.deneva_base.specs.Rows.{Rows}
 use Rattle.deneva_base.specs.Keys.{key_eq, number_eq, loaded_version}
 use Rattle.deneva_base.specs.Modes.{reads, IsReading}
-use Rattle.deneva_base.specs.History.{History, Asked, Grant, asks, grants, waits, grant_of, grant_of_wake}
-use Rattle.deneva_base.specs.Latest.{Version}
-use Rattle.deneva_base.specs.Versions.{below}
-use Rattle.deneva_base.specs.Waiting.{wake_of}
-use Rattle.deneva_base.specs.Mvcc.{top_reader}
-use Rattle.deneva_base.proofs.Words.{key_tells, reading_decides}
-use Rattle.deneva_base.proofs.Known.{Known}
-use Rattle.deneva_base.proofs.Traced.{asked_found}
+use Rattle.protocol_rules.specs.History.{History, Asked, Grant, asks, grants, waits, grant_of, grant_of_wake}
+use Rattle.protocol_rules.specs.Latest.{Version}
+use Rattle.protocol_rules.specs.Versions.{below}
+use Rattle.protocol_rules.specs.Waiting.{wake_of}
+use Rattle.protocol_rules.specs.Mvcc.{top_reader}
+use Rattle.deneva_base.proofs.Membership.{key_tells, reading_decides}
+use Rattle.protocol_rules.proofs.Known.{Known}
+use Rattle.protocol_rules.proofs.Traced.{asked_found}
 use Rattle.chain_control.specs.declared.requests.Waiter.{Waiter}
 use Rattle.chain_control.specs.declared.links.Link.{Link}
 use Rattle.chain_control.specs.Links.{read_by}

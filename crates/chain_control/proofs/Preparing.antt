@@ -8,10 +8,11 @@ use Rattle.deneva_base.specs.declared.causes.Bound.{Bound}
 use Rattle.deneva_base.specs.declared.answers.Vote.TheVariants.{Yes}
 use Rattle.deneva_base.specs.Lists.{IsIn}
 use Rattle.deneva_base.specs.Rows.{Rows}
-use Rattle.deneva_base.specs.Conditions.{MayPrepare}
-use Rattle.deneva_base.specs.History.{Prepare, History, IsUnended}
-use Rattle.deneva_base.specs.Latest.{has_ended}
-use Rattle.deneva_base.proofs.Words.{attempt_tells, not_ended}
+use Rattle.protocol_rules.specs.Conditions.{MayPrepare}
+use Rattle.protocol_rules.specs.History.{Prepare, History, IsUnended}
+use Rattle.protocol_rules.specs.Latest.{has_ended}
+use Rattle.deneva_base.proofs.Membership.{attempt_tells}
+use Rattle.protocol_rules.proofs.Unended.{not_ended}
 use Rattle.row_store.specs.declared.versions.Version.{Version as StoredVersion}
 use Rattle.row_store.specs.Stores.{version_at}
 use Rattle.chain_control.specs.declared.table.Table.{Table}

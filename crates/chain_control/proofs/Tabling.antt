@@ -8,8 +8,8 @@ use Rattle.deneva_base.specs.declared.rows.Keyed.{Keyed}
 use Rattle.deneva_base.specs.declared.rows.Cell.{Cell}
 use Rattle.deneva_base.specs.Lists.{IsIn}
 use Rattle.deneva_base.specs.Keys.{key_eq, key_lt, attempt_eq}
-use Rattle.deneva_base.specs.Latest.{row_for}
-use Rattle.deneva_base.proofs.Words.{key_tells}
+use Rattle.protocol_rules.specs.Latest.{row_for}
+use Rattle.deneva_base.proofs.Membership.{key_tells}
 use Rattle.chain_control.specs.declared.requests.Request.{Request}
 use Rattle.chain_control.specs.declared.requests.Waiter.{Waiter}
 use Rattle.chain_control.specs.declared.links.Link.{Link}

@@ -12,15 +12,15 @@ use Rattle.deneva_base.specs.Lists.{IsIn, greatest_by}
 use Rattle.deneva_base.specs.Rows.{Row, Rows}
 use Rattle.deneva_base.specs.Keys.{key_eq, number_lt, number_eq}
 use Rattle.deneva_base.specs.Modes.{reads}
-use Rattle.deneva_base.specs.History.{History, Asked, Grant, grants, waits, yeas, is_woken, Writes}
-use Rattle.deneva_base.specs.Latest.{Version, row_for, writes_in}
-use Rattle.deneva_base.specs.Rules.{Obeys}
-use Rattle.deneva_base.specs.Versions.{version_of, written, start, greatest, below}
-use Rattle.deneva_base.specs.Mvcc.{versions, as_great as versions_as_great, nth_greatest, floor, top_reader, mvcc}
-use Rattle.deneva_base.proofs.Words.{in_left, in_right, in_cases, in_filter, filter_in, any_at, any_found, and_true, and_parts, key_decides, reading_decides}
-use Rattle.deneva_base.proofs.Belows.{listed, greatest_le}
-use Rattle.deneva_base.proofs.Mvccs.{stamping}
-use Rattle.deneva_base.proofs.Stamping.{wakes_law, state}
+use Rattle.protocol_rules.specs.History.{History, Asked, Grant, grants, waits, yeas, is_woken, Writes}
+use Rattle.protocol_rules.specs.Latest.{Version, row_for, writes_in}
+use Rattle.protocol_rules.specs.Rules.{Obeys}
+use Rattle.protocol_rules.specs.Versions.{version_of, written, start, greatest, below}
+use Rattle.protocol_rules.specs.Mvcc.{versions, as_great as versions_as_great, nth_greatest, floor, top_reader, mvcc}
+use Rattle.deneva_base.proofs.Membership.{in_left, in_right, in_cases, in_filter, filter_in, any_at, any_found, and_true, and_parts, key_decides, reading_decides}
+use Rattle.protocol_rules.proofs.Belows.{listed, greatest_le}
+use Rattle.protocol_rules.proofs.Mvccs.{stamping}
+use Rattle.protocol_rules.proofs.Stamping.{wakes_law, state}
 use Rattle.chain_control.specs.declared.requests.Request.{Request}
 use Rattle.chain_control.specs.declared.links.Link.{Link}
 use Rattle.chain_control.specs.Requests.{awaits}

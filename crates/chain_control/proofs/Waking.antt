@@ -7,15 +7,15 @@ use Rattle.deneva_base.specs.declared.numbers.Number.{Number}
 use Rattle.deneva_base.specs.Lists.{IsIn, insert, sort}
 use Rattle.deneva_base.specs.Rows.{Rows}
 use Rattle.deneva_base.specs.Keys.{attempt_eq}
-use Rattle.deneva_base.specs.History.{History, Asked, Grant, Yea, grant_of, grant_of_wake, grants, waits, yeas, ended, is_woken, IsUnended}
-use Rattle.deneva_base.specs.Latest.{Version, writes_in}
-use Rattle.deneva_base.specs.Order.{by_rising_stamp}
-use Rattle.deneva_base.specs.Versions.{below}
-use Rattle.deneva_base.specs.Waiting.{wake_of}
-use Rattle.deneva_base.proofs.Words.{in_cases, in_left, in_right, in_map, in_map_from, in_filter, filter_in, attempt_tells}
-use Rattle.deneva_base.proofs.Known.{Known}
-use Rattle.deneva_base.proofs.Sorts.{sort_in, in_sort}
-use Rattle.deneva_base.proofs.Woken.{woken_in, in_woken, wake_grants, grant_wakes}
+use Rattle.protocol_rules.specs.History.{History, Asked, Grant, Yea, grant_of, grant_of_wake, grants, waits, yeas, ended, is_woken, IsUnended}
+use Rattle.protocol_rules.specs.Latest.{Version, writes_in}
+use Rattle.protocol_rules.specs.Order.{by_rising_stamp}
+use Rattle.protocol_rules.specs.Versions.{below}
+use Rattle.protocol_rules.specs.Waiting.{wake_of}
+use Rattle.deneva_base.proofs.Membership.{in_cases, in_left, in_right, in_map, in_map_from, in_filter, filter_in, attempt_tells}
+use Rattle.protocol_rules.proofs.Known.{Known}
+use Rattle.protocol_rules.proofs.Sorts.{sort_in, in_sort}
+use Rattle.protocol_rules.proofs.Woken.{woken_in, in_woken, wake_grants, grant_wakes}
 use Rattle.control_core.specs.Leaving.{last}
 use Rattle.control_core.proofs.Lasts.{appends_in}
 use Rattle.chain_control.specs.declared.requests.Request.{Request}

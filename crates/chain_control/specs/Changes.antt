@@ -8,7 +8,7 @@ use Rattle.deneva_base.specs.declared.rows.Keyed.{Keyed}
 use Rattle.deneva_base.specs.declared.rows.Cell.{Cell}
 use Rattle.deneva_base.specs.declared.answers.Wake.{Wake}
 use Rattle.deneva_base.specs.Keys.{key_eq, number_lt, loaded_version}
-use Rattle.deneva_base.specs.Latest.{row_for}
+use Rattle.protocol_rules.specs.Latest.{row_for}
 use Rattle.deneva_base.specs.Modes.{reads}
 use Rattle.row_store.specs.declared.versions.Version.{Version}
 use Rattle.row_store.specs.Stores.{Seen, version_at, newest}

@@ -4,10 +4,10 @@ use Rattle.std.specs.List.{list_any}
 use Rattle.deneva_base.specs.declared.keys.Key.{Key}
 use Rattle.deneva_base.specs.Keys.{key_eq, number_eq}
 use Rattle.deneva_base.specs.Rows.{Rows}
-use Rattle.deneva_base.specs.History.{History, Asked, waits}
-use Rattle.deneva_base.specs.Latest.{Version}
-use Rattle.deneva_base.specs.Versions.{written, start, below}
-use Rattle.deneva_base.specs.Mvcc.{floor}
+use Rattle.protocol_rules.specs.History.{History, Asked, waits}
+use Rattle.protocol_rules.specs.Latest.{Version}
+use Rattle.protocol_rules.specs.Versions.{written, start, below}
+use Rattle.protocol_rules.specs.Mvcc.{floor}
 
 -- the loaded version of the key and its committed writes, in the order of their commits
 abbrev pub in_order : Rows → History → Key → List Version

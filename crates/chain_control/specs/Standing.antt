@@ -6,11 +6,11 @@ use Rattle.deneva_base.specs.declared.numbers.Attempt.{Attempt}
 use Rattle.deneva_base.specs.Lists.{IsIn}
 use Rattle.deneva_base.specs.Keys.{key_lt}
 use Rattle.deneva_base.specs.Rows.{Row, Rows}
-use Rattle.deneva_base.specs.History.{History, Asked, Grant, Yea, grants, waits, yeas, IsUnended}
-use Rattle.deneva_base.specs.Latest.{Version, writes_in, has_ended}
-use Rattle.deneva_base.specs.Rules.{Obeys}
-use Rattle.deneva_base.specs.Versions.{below}
-use Rattle.deneva_base.specs.Mvcc.{floor, top_reader, mvcc}
+use Rattle.protocol_rules.specs.History.{History, Asked, Grant, Yea, grants, waits, yeas, IsUnended}
+use Rattle.protocol_rules.specs.Latest.{Version, writes_in, has_ended}
+use Rattle.protocol_rules.specs.Rules.{Obeys}
+use Rattle.protocol_rules.specs.Versions.{below}
+use Rattle.protocol_rules.specs.Mvcc.{floor, top_reader, mvcc}
 use Rattle.row_store.specs.declared.versions.Version.{Version as StoredVersion}
 use Rattle.row_store.specs.Stores.{version_at}
 use Rattle.control_core.specs.Leaving.{last}

@@ -7,7 +7,7 @@ use Rattle.deneva_base.specs.declared.numbers.Number.{Number}
 use Rattle.deneva_base.specs.declared.rows.Keyed.{Keyed}
 use Rattle.deneva_base.specs.declared.rows.Cell.{Cell}
 use Rattle.deneva_base.specs.declared.causes.Cause.{Cause}
-use Rattle.deneva_base.specs.Latest.{row_for}
+use Rattle.protocol_rules.specs.Latest.{row_for}
 use Rattle.deneva_base.specs.Modes.{reads}
 use Rattle.row_store.specs.declared.versions.Version.{Version}
 use Rattle.chain_control.specs.declared.requests.Request.{Request}

@@ -1,13 +1,13 @@
 //! MVCC as a control.
 ghost use Rattle.std.specs.Prelude.{true, false, refl, ◌≡◌, ◌≤◌, ◌+◌, Some, length, filter};
-ghost use Rattle.deneva_base.specs.Mvcc.{mvcc, versions};
-ghost use Rattle.deneva_base.specs.History.{History, waits};
+ghost use Rattle.protocol_rules.specs.Mvcc.{mvcc, versions};
+ghost use Rattle.protocol_rules.specs.History.{History, waits};
 ghost use Rattle.deneva_base.specs.Keys.{key_eq};
 ghost use Rattle.deneva_base.specs.Rows.{Row, Rows};
 ghost use Rattle.deneva_base.specs.declared.config.Protocol.TheVariants.{Mvcc};
-ghost use Rattle.deneva_base.proofs.Mvccs.{stamping};
-ghost use Rattle.deneva_base.proofs.Stamping.{windows_law};
-ghost use Rattle.deneva_base.proofs.StampsServed.{mvcc_waits};
+ghost use Rattle.protocol_rules.proofs.Mvccs.{stamping};
+ghost use Rattle.protocol_rules.proofs.Stamping.{windows_law};
+ghost use Rattle.protocol_rules.proofs.StampsServed.{mvcc_waits};
 ghost use Rattle.chain_control.specs.Kept.{kept};
 ghost use Rattle.chain_control.specs.Standing.{ChainsStand};
 

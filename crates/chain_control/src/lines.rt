@@ -1,6 +1,6 @@
 //! What is kept of each key.
 ghost use Rattle.std.specs.Prelude.{◌≡◌, ◌++◌, None, option_map, length, IfOk, OnOk, OnErr};
-ghost use Rattle.deneva_base.specs.Latest.{row_for};
+ghost use Rattle.protocol_rules.specs.Latest.{row_for};
 ghost use Rattle.deneva_base.specs.Lists.{greatest_by};
 ghost use Rattle.deneva_base.specs.declared.keys.Key.{Key};
 ghost use Rattle.chain_control.specs.Chains.{with_request, with_grant, committed, without, granted, trimmed};

@@ -5,7 +5,7 @@ ghost use Rattle.deneva_base.specs.declared.keys.Key.{Key};
 ghost use Rattle.deneva_base.specs.declared.rows.Keyed.{Keyed};
 ghost use Rattle.deneva_base.specs.declared.answers.Answer.TheVariants.{Granted, Waits};
 ghost use Rattle.deneva_base.specs.declared.answers.Vote.TheVariants.{Yes};
-ghost use Rattle.deneva_base.specs.Latest.{row_for};
+ghost use Rattle.protocol_rules.specs.Latest.{row_for};
 ghost use Rattle.row_store.specs.Stores.{version_at, has};
 ghost use Rattle.chain_control.specs.Tables.{chain_at, below_in, stamp_in, goers_over, no_one};
 ghost use Rattle.chain_control.specs.Holdings.{holding_at};

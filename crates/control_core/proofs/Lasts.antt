@@ -10,14 +10,14 @@ use Rattle.deneva_base.specs.declared.answers.Vote.TheVariants.{Yes, No}
 use Rattle.deneva_base.specs.Lists.{IsIn}
 use Rattle.deneva_base.specs.Rows.{Row, Rows}
 use Rattle.deneva_base.specs.Keys.{key_eq, attempt_eq, number_lt, loaded_version}
-use Rattle.deneva_base.specs.History.{Ask, Prepare, Commit, Abort, History, Yea, Decided, yea, yeas, decided, ended}
-use Rattle.deneva_base.specs.Latest.{Version, row_for, writes_in, latest, newer}
-use Rattle.deneva_base.specs.Rules.{Rule, Obeys}
-use Rattle.deneva_base.specs.Windows.{KeepsWindows}
-use Rattle.deneva_base.proofs.Words.{key_tells, attempt_tells}
-use Rattle.deneva_base.proofs.Sound.{sound}
+use Rattle.protocol_rules.specs.History.{Ask, Prepare, Commit, Abort, History, Yea, Decided, yea, yeas, decided, ended}
+use Rattle.protocol_rules.specs.Latest.{Version, row_for, writes_in, latest, newer}
+use Rattle.protocol_rules.specs.Rules.{Rule, Obeys}
+use Rattle.protocol_rules.specs.Windows.{KeepsWindows}
+use Rattle.deneva_base.proofs.Membership.{key_tells, attempt_tells}
+use Rattle.protocol_rules.proofs.Sound.{sound}
 use Rattle.control_core.specs.Leaving.{last}
-use Rattle.deneva_base.specs.Leaving.{left_in, later, greatest_at, row_or, rows_left}
+use Rattle.protocol_rules.specs.Leaving.{left_in, later, greatest_at, row_or, rows_left}
 
 abbrev pub appends_in : List Yea → Attempt → List Keyed
 appends_in [] who = []

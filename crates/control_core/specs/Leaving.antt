@@ -3,9 +3,9 @@ use Rattle.std.specs.Prelude.{◌≡◌, [], ◌∷◌, Option, Some, option_map
 use Rattle.deneva_base.specs.declared.keys.Key.{Key}
 use Rattle.deneva_base.specs.Keys.{loaded_version}
 use Rattle.deneva_base.specs.Rows.{Rows}
-use Rattle.deneva_base.specs.History.{Ask, Prepare, Commit, Abort, History, yeas}
-use Rattle.deneva_base.specs.Latest.{Version, row_for}
-use Rattle.deneva_base.specs.Leaving.{later, left_in}
+use Rattle.protocol_rules.specs.History.{Ask, Prepare, Commit, Abort, History, yeas}
+use Rattle.protocol_rules.specs.Latest.{Version, row_for}
+use Rattle.protocol_rules.specs.Leaving.{later, left_in}
 use Rattle.row_store.specs.Stores.{Seen, version_at}
 use Rattle.row_store.specs.declared.versions.Version.{Version as StoredVersion}
 

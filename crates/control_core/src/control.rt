@@ -1,19 +1,19 @@
 //! Controls, and those that a protocol chooses.
 ghost use Rattle.std.specs.Prelude.{◌≡◌, ◌≢◌, ◌++◌, [], ◌∷◌, true, length, Bool, Some, IfOk, IfErr, OnOk, OnErr, IsOk};
-ghost use Rattle.deneva_base.specs.Conditions.{MayAsk, MayPrepare, MayCommit, MayAbort};
-ghost use Rattle.deneva_base.specs.History.{History, Ask, Prepare, Commit, Abort, waits};
-ghost use Rattle.deneva_base.specs.Protocols.{chosen};
+ghost use Rattle.protocol_rules.specs.Conditions.{MayAsk, MayPrepare, MayCommit, MayAbort};
+ghost use Rattle.protocol_rules.specs.History.{History, Ask, Prepare, Commit, Abort, waits};
+ghost use Rattle.protocol_rules.specs.Protocols.{chosen};
 ghost use Rattle.deneva_base.specs.Rising.{keys_rise};
 ghost use Rattle.deneva_base.specs.Rows.{Rows, row_of};
-ghost use Rattle.deneva_base.specs.Rules.{Rule, Obeys};
-ghost use Rattle.deneva_base.specs.Waits.{WaitsLaw};
-ghost use Rattle.deneva_base.specs.Windows.{KeepsWindows};
+ghost use Rattle.protocol_rules.specs.Rules.{Rule, Obeys};
+ghost use Rattle.protocol_rules.specs.Waits.{WaitsLaw};
+ghost use Rattle.protocol_rules.specs.Windows.{KeepsWindows};
 ghost use Rattle.deneva_base.specs.declared.config.Protocol.{Protocol};
 ghost use Rattle.deneva_base.specs.declared.config.Protocol.TheVariants.{Calvin};
 ghost use Rattle.deneva_base.specs.declared.keys.Key.{Key};
 ghost use Rattle.row_store.specs.Stores.{row_in};
 ghost use Rattle.control_core.specs.Leaving.{IsLoadedStore};
-ghost use Rattle.deneva_base.specs.Leaving.{rows_left};
+ghost use Rattle.protocol_rules.specs.Leaving.{rows_left};
 
 use deneva_base::{
     Answer, Attempt, Bound, Key, Mode, NoMemory, Number, Protocol, RowList, Vote, Woken,

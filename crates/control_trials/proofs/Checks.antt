@@ -10,10 +10,10 @@ use Rattle.deneva_base.specs.declared.rows.Keyed.{Keyed}
 use Rattle.deneva_base.specs.Modes.{writes}
 use Rattle.deneva_base.specs.Rows.{Row, Rows}
 use Rattle.deneva_base.specs.Keys.{key_eq, attempt_eq}
-use Rattle.deneva_base.specs.Conditions.{MayAsk, MayPrepare, MayCommit, MayAbort}
-use Rattle.deneva_base.specs.History.{History, Asked, Grant, Yea, asks, grants, waits, refused, yeas, aborted, ended, closed}
-use Rattle.deneva_base.specs.Rules.{Rule}
-use Rattle.deneva_base.proofs.Words.{any_at, any_found, and_true, and_parts, attempt_decides, key_decides, writing_decides}
+use Rattle.protocol_rules.specs.Conditions.{MayAsk, MayPrepare, MayCommit, MayAbort}
+use Rattle.protocol_rules.specs.History.{History, Asked, Grant, Yea, asks, grants, waits, refused, yeas, aborted, ended, closed}
+use Rattle.protocol_rules.specs.Rules.{Rule}
+use Rattle.deneva_base.proofs.Membership.{any_at, any_found, and_true, and_parts, attempt_decides, key_decides, writing_decides}
 use Rattle.control_trials.specs.declared.steps.Step.{Step}
 use Rattle.control_trials.specs.declared.steps.Step.TheVariants.{Ask, Prepare, Write, Commit, Abort}
 use Rattle.control_trials.specs.Trials.{attempt_of, trial_key, trial_row, bound_of, number_of, MayStep, Allowed, answered, is_trial_key}

@@ -2,8 +2,8 @@
 use Rattle.std.proofs.Common.{◌≡◌, ℕ, ◌-◌, ◌<◌, ◌≤◌, List, [], ◌∷◌, length, slice_index_or, take, drop, refl, sym, subst, arith}
 use Rattle.std.proofs.lemmas.List.{take_all}
 use Rattle.deneva_base.specs.Rows.{Rows}
-use Rattle.deneva_base.specs.History.{History}
-use Rattle.deneva_base.specs.Rules.{Rule}
+use Rattle.protocol_rules.specs.History.{History}
+use Rattle.protocol_rules.specs.Rules.{Rule}
 use Rattle.control_trials.specs.declared.steps.Step.{Step}
 use Rattle.control_trials.specs.Trials.{MayStep, Allowed, answered, all_answered}
 

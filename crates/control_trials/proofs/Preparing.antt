@@ -4,9 +4,9 @@ use Rattle.deneva_base.specs.declared.numbers.Attempt.{Attempt}
 use Rattle.deneva_base.specs.declared.causes.Bound.{Bound}
 use Rattle.deneva_base.specs.declared.rows.Keyed.{Keyed}
 use Rattle.deneva_base.specs.declared.answers.Vote.{Vote}
-use Rattle.deneva_base.specs.Conditions.{MayPrepare}
-use Rattle.deneva_base.specs.History.{Prepare as Prepared, History}
-use Rattle.deneva_base.specs.Rules.{Rule}
+use Rattle.protocol_rules.specs.Conditions.{MayPrepare}
+use Rattle.protocol_rules.specs.History.{Prepare as Prepared, History}
+use Rattle.protocol_rules.specs.Rules.{Rule}
 use Rattle.control_trials.specs.Trials.{attempt_of, bound_of, voted}
 
 -- what the call says

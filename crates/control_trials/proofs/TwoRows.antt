@@ -7,7 +7,7 @@ use Rattle.deneva_base.specs.declared.keys.Key.{Key}
 use Rattle.deneva_base.specs.declared.numbers.Number.{Number}
 use Rattle.deneva_base.specs.declared.rows.Keyed.{Keyed}
 use Rattle.deneva_base.specs.Keys.{key_eq, loaded_version}
-use Rattle.deneva_base.proofs.Words.{key_tells, key_same, and_parts}
+use Rattle.deneva_base.proofs.Membership.{key_tells, key_same, and_parts}
 use Rattle.row_store.specs.declared.versions.Version.{Version}
 use Rattle.row_store.specs.Stores.{Seen, version_at, row_in, loaded, HaveDistinctKeys}
 use Rattle.deneva_base.specs.Rows.{row_of}

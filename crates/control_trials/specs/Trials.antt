@@ -7,9 +7,9 @@ use Rattle.deneva_base.specs.declared.causes.Bound.{Bound}
 use Rattle.deneva_base.specs.declared.rows.Cell.TheVariants.{Num}
 use Rattle.deneva_base.specs.declared.rows.Keyed.{Keyed}
 use Rattle.deneva_base.specs.Rows.{Rows}
-use Rattle.deneva_base.specs.Conditions.{MayAsk, MayPrepare, MayCommit, MayAbort}
-use Rattle.deneva_base.specs.History.{Ask as Asked, Prepare as Prepared, Commit as Committed, Abort as Aborted, History}
-use Rattle.deneva_base.specs.Rules.{Rule}
+use Rattle.protocol_rules.specs.Conditions.{MayAsk, MayPrepare, MayCommit, MayAbort}
+use Rattle.protocol_rules.specs.History.{Ask as Asked, Prepare as Prepared, Commit as Committed, Abort as Aborted, History}
+use Rattle.protocol_rules.specs.Rules.{Rule}
 use Rattle.row_store.specs.Stores.{Seen, row_in}
 use Rattle.control_trials.specs.declared.steps.Step.{Step}
 use Rattle.control_trials.specs.declared.steps.Step.TheVariants.{Ask, Prepare, Write, Commit, Abort}

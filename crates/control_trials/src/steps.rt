@@ -1,7 +1,7 @@
 //! Lists of calls, and what a control says to them.
 ghost use Rattle.std.specs.Prelude.{◌≡◌, [], ◌∷◌, IfOk, OnOk};
-ghost use Rattle.deneva_base.specs.Conditions.{MayPrepare};
-ghost use Rattle.deneva_base.specs.History.{History};
+ghost use Rattle.protocol_rules.specs.Conditions.{MayPrepare};
+ghost use Rattle.protocol_rules.specs.History.{History};
 ghost use Rattle.deneva_base.specs.Rows.{Rows};
 ghost use Rattle.control_trials.specs.Trials.{attempt_of, trial_key, trial_row, bound_of, MayStep, Allowed, answered, all_answered, voted};
 

@@ -7,7 +7,7 @@ use Rattle.deneva_base.specs.declared.numbers.Number.{Number}
 use Rattle.deneva_base.specs.declared.numbers.TxnId.{TxnId}
 use Rattle.deneva_base.specs.Keys.{attempt_eq}
 use Rattle.deneva_base.specs.Lists.{IsIn}
-use Rattle.deneva_base.proofs.Words.{attempt_tells}
+use Rattle.deneva_base.proofs.Membership.{attempt_tells}
 use Rattle.server_core.specs.declared.messages.Msg.{Msg}
 use Rattle.server_core.specs.declared.messages.Msg.TheVariants.{Start, Ask, Yes, No}
 use Rattle.server_core.specs.Coordinator.{coordinator, ask_of, next_ask, reads_of, bound_of}

@@ -9,7 +9,7 @@ use Rattle.deneva_base.specs.declared.keys.Access.{Access}
 use Rattle.deneva_base.specs.declared.numbers.Attempt.{Attempt}
 use Rattle.deneva_base.specs.declared.numbers.TxnId.{TxnId}
 use Rattle.deneva_base.specs.Keys.{id_eq}
-use Rattle.deneva_base.specs.Protocols.{chosen}
+use Rattle.protocol_rules.specs.Protocols.{chosen}
 use Rattle.txn_program.specs.Placed.{ArePlaced}
 use Rattle.txn_program.specs.Serial.{program_of}
 use Rattle.txn_program.proofs.Placing.{accesses_placed}

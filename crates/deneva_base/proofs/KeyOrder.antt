@@ -1,5 +1,5 @@
 -- Equality of keys decides whether they are one, and their comparison is a total order that agrees with it.
-use Rattle.std.proofs.Common.{◌≡◌, ℕ, Bool, true, false, ◌&&◌, refl, ap, arith, ◌==◌}
+use Rattle.std.proofs.Common.{◌≡◌, ◌≢◌, ℕ, Bool, true, false, ◌&&◌, refl, ap, arith, ◌==◌}
 use Rattle.std.specs.Bool.{Decides}
 use Rattle.std.specs.Cmp.{IsTotalOrder, IsEquivalence}
 use Rattle.std.specs.Ordering.{nat_cmp, ordering_then, is_eq, is_lt}
@@ -8,8 +8,9 @@ use Rattle.std.specs.declared.cmp.Ordering.TheVariants.{Less, Equal, Greater}
 use Rattle.std.proofs.lemmas.Bool.{false≢true}
 use Rattle.std.proofs.lemmas.Bool.Decides.{nat_tests, Decides-eqb, Decides-and, Decides-like}
 use Rattle.std.proofs.lemmas.Cmp.{nat_cmp_total, nat_eq_equiv, on_total, on_equiv, then_total, and_equiv}
-use Rattle.deneva_base.specs.Keys.{key_eq, key_cmp}
+use Rattle.deneva_base.specs.Keys.{key_eq, key_cmp, key_lt}
 use Rattle.deneva_base.specs.declared.keys.Key.{Key}
+use Rattle.deneva_base.proofs.Membership.{key_tells}
 
 -- keys are compared by their fields, one after another
 pub key_cmp_total : IsTotalOrder key_cmp
@@ -64,3 +65,13 @@ less Greater e = absurd (false≢true e)
 
 pub key_eq-below : (k q : Key) → is_lt (key_cmp k q) ≡ true → key_eq k q ≡ false
 key_eq-below k q e = key_eq-at_Less k q (less (key_cmp k q) e)
+
+-- the order as a test
+less_is_lt : (o : Ordering) → o ≡ Less → is_lt o ≡ true
+less_is_lt o e = ap is_lt e
+
+pub key_trans : (a b c : Key) → key_lt a b ≡ true → key_lt b c ≡ true → key_lt a c ≡ true
+key_trans a b c e f = less_is_lt (key_cmp a c) (key_cmp_total.trans a b c (less (key_cmp a b) e) (less (key_cmp b c) f))
+
+pub key_total : (a b : Key) → a ≢ b → key_lt a b ≡ false → key_lt b a ≡ true
+key_total a b n e = grind (arith, nat_tests, key_tells a b)

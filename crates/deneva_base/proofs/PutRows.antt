@@ -14,7 +14,7 @@ use Rattle.deneva_base.specs.declared.rows.Keyed.{Keyed}
 use Rattle.deneva_base.proofs.Entries.{key_cmp_same}
 use Rattle.deneva_base.proofs.KeyOrder.{less, key_cmp_total, key_eq-at_Greater, key_eq-below}
 use Rattle.deneva_base.proofs.RowMaps.{below_all, keys_rise-tail}
-use Rattle.deneva_base.proofs.Words.{key_tells}
+use Rattle.deneva_base.proofs.Membership.{key_tells}
 
 -- where neither comparison is the other way round, the key at hand is above
 above : (k q : Key) → key_cmp k q ≡ Greater → is_lt (key_cmp q k) ≡ true

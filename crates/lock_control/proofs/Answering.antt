@@ -11,16 +11,16 @@ use Rattle.deneva_base.specs.Lists.{IsIn}
 use Rattle.deneva_base.specs.Rows.{Row, Rows}
 use Rattle.deneva_base.specs.Keys.{key_eq, attempt_eq, attempt_lt, loaded_version}
 use Rattle.deneva_base.specs.Modes.{reads, writes}
-use Rattle.deneva_base.specs.History.{History, Asked, Grant, grants, yeas, IsUnended, Conflict}
-use Rattle.deneva_base.specs.Latest.{Version, latest, seen}
-use Rattle.deneva_base.specs.Locks.{least}
-use Rattle.deneva_base.specs.Rules.{Rule, Obeys}
-use Rattle.deneva_base.proofs.Words.{key_decides, attempt_decides, and_true, and_parts}
-use Rattle.deneva_base.proofs.Sound.{Sound, writes_found}
-use Rattle.deneva_base.proofs.Known.{Known}
-use Rattle.deneva_base.proofs.Traced.{Traced}
-use Rattle.deneva_base.proofs.Locks.{conflict_decides}
-use Rattle.deneva_base.proofs.Queues.{least_in, least_below}
+use Rattle.protocol_rules.specs.History.{History, Asked, Grant, grants, yeas, IsUnended, Conflict}
+use Rattle.protocol_rules.specs.Latest.{Version, latest, seen}
+use Rattle.protocol_rules.specs.Locks.{least}
+use Rattle.protocol_rules.specs.Rules.{Rule, Obeys}
+use Rattle.deneva_base.proofs.Membership.{key_decides, attempt_decides, and_true, and_parts}
+use Rattle.protocol_rules.proofs.Sound.{Sound, writes_found}
+use Rattle.protocol_rules.proofs.Known.{Known}
+use Rattle.protocol_rules.proofs.Traced.{Traced}
+use Rattle.protocol_rules.proofs.Locks.{conflict_decides}
+use Rattle.protocol_rules.proofs.Queues.{least_in, least_below}
 use Rattle.row_store.specs.declared.versions.Version.{Version as StoredVersion}
 use Rattle.row_store.specs.Stores.{Seen, version_at, row_in}
 use Rattle.control_core.specs.Leaving.{IsLoadedStore}

@@ -8,13 +8,13 @@ use Rattle.deneva_base.specs.declared.causes.Cause.{Cause}
 use Rattle.deneva_base.specs.declared.answers.Answer.TheVariants.{Granted, Waits, Refused}
 use Rattle.deneva_base.specs.Lists.{IsIn}
 use Rattle.deneva_base.specs.Rows.{Row, Rows}
-use Rattle.deneva_base.specs.Conditions.{MayAsk}
+use Rattle.protocol_rules.specs.Conditions.{MayAsk}
 use Rattle.deneva_base.specs.Modes.{writes}
 use Rattle.row_store.specs.Stores.{version_at}
-use Rattle.deneva_base.specs.History.{Ask, History, Asked, Grant, Decided, asks, grants, decided, ended, IsUnended}
-use Rattle.deneva_base.proofs.Sound.{Sound}
-use Rattle.deneva_base.proofs.Known.{Known}
-use Rattle.deneva_base.proofs.Traced.{Traced}
+use Rattle.protocol_rules.specs.History.{Ask, History, Asked, Grant, Decided, asks, grants, decided, ended, IsUnended}
+use Rattle.protocol_rules.proofs.Sound.{Sound}
+use Rattle.protocol_rules.proofs.Known.{Known}
+use Rattle.protocol_rules.proofs.Traced.{Traced}
 use Rattle.lock_control.specs.declared.requests.Request.{Request}
 use Rattle.lock_control.specs.declared.table.Table.{Table}
 use Rattle.lock_control.specs.Tables.{Locks, Holding, same_key, with_request, with_key}
@@ -23,7 +23,7 @@ use Rattle.lock_control.specs.Standing.{State, state_of, owner_of, waiter_of, Is
 use Rattle.lock_control.proofs.Places.{same_tells}
 use Rattle.lock_control.proofs.Puts.{put_in, in_put, falling_put, key_in_put, rising_put}
 use Rattle.deneva_base.specs.Keys.{attempt_eq}
-use Rattle.deneva_base.proofs.Words.{attempt_tells}
+use Rattle.deneva_base.proofs.Membership.{attempt_tells}
 
 -- what one more request gives
 pub record Grew (key : Key) (r : Request) (s s' : State) : Type 0 where

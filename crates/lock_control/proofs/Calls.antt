@@ -10,19 +10,19 @@ use Rattle.deneva_base.specs.declared.answers.Answer.TheVariants.{Granted, Waits
 use Rattle.deneva_base.specs.declared.answers.Vote.TheVariants.{Yes}
 use Rattle.deneva_base.specs.Lists.{IsIn, greatest_by}
 use Rattle.deneva_base.specs.Rows.{Row, Rows}
-use Rattle.deneva_base.specs.Conditions.{MayAsk, MayPrepare, MayCommit, MayAbort}
-use Rattle.deneva_base.specs.History.{Ask, Commit, Abort, History, yeas, IsUnended}
-use Rattle.deneva_base.specs.Latest.{latest, seen}
-use Rattle.deneva_base.specs.Locks.{lock_vote}
-use Rattle.deneva_base.specs.Rules.{Rule, Obeys}
-use Rattle.deneva_base.specs.Wakes.{KeepsWakes}
-use Rattle.deneva_base.specs.Windows.{KeepsWindows}
-use Rattle.deneva_base.proofs.Sound.{Sound, sound}
-use Rattle.deneva_base.proofs.Known.{Known, known}
-use Rattle.deneva_base.proofs.Traced.{Traced, traced}
+use Rattle.protocol_rules.specs.Conditions.{MayAsk, MayPrepare, MayCommit, MayAbort}
+use Rattle.protocol_rules.specs.History.{Ask, Commit, Abort, History, yeas, IsUnended}
+use Rattle.protocol_rules.specs.Latest.{latest, seen}
+use Rattle.protocol_rules.specs.Locks.{lock_vote}
+use Rattle.protocol_rules.specs.Rules.{Rule, Obeys}
+use Rattle.protocol_rules.specs.Wakes.{KeepsWakes}
+use Rattle.protocol_rules.specs.Windows.{KeepsWindows}
+use Rattle.protocol_rules.proofs.Sound.{Sound, sound}
+use Rattle.protocol_rules.proofs.Known.{Known, known}
+use Rattle.protocol_rules.proofs.Traced.{Traced, traced}
 use Rattle.row_store.specs.declared.versions.Version.{Version as StoredVersion}
 use Rattle.row_store.specs.Stores.{version_at, has, row_in}
-use Rattle.deneva_base.specs.Leaving.{rows_left}
+use Rattle.protocol_rules.specs.Leaving.{rows_left}
 use Rattle.control_core.proofs.Lasts.{last_rows}
 use Rattle.lock_control.specs.declared.table.Table.{Table}
 use Rattle.lock_control.specs.Tables.{holding_at, locks_at, floor_at}

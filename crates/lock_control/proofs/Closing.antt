@@ -8,13 +8,13 @@ use Rattle.deneva_base.specs.declared.numbers.Number.{Number}
 use Rattle.deneva_base.specs.Lists.{IsIn}
 use Rattle.deneva_base.specs.Rows.{Rows}
 use Rattle.deneva_base.specs.Modes.{writes}
-use Rattle.deneva_base.specs.Conditions.{MayCommit, MayAbort}
-use Rattle.deneva_base.specs.History.{Commit, Abort, History, Grant, Decided, grants, waits, yeas, closed, IsUnended, WaitsNowhere}
-use Rattle.deneva_base.specs.Latest.{writes_in, row_for}
-use Rattle.deneva_base.proofs.Sound.{Sound}
-use Rattle.deneva_base.proofs.Known.{Known}
-use Rattle.deneva_base.proofs.Traced.{Traced}
-use Rattle.deneva_base.specs.Leaving.{later, left_in}
+use Rattle.protocol_rules.specs.Conditions.{MayCommit, MayAbort}
+use Rattle.protocol_rules.specs.History.{Commit, Abort, History, Grant, Decided, grants, waits, yeas, closed, IsUnended, WaitsNowhere}
+use Rattle.protocol_rules.specs.Latest.{writes_in, row_for}
+use Rattle.protocol_rules.proofs.Sound.{Sound}
+use Rattle.protocol_rules.proofs.Known.{Known}
+use Rattle.protocol_rules.proofs.Traced.{Traced}
+use Rattle.protocol_rules.specs.Leaving.{later, left_in}
 use Rattle.lock_control.specs.declared.requests.Request.{Request}
 use Rattle.lock_control.specs.declared.table.Table.{Table}
 use Rattle.lock_control.specs.Requests.{mode_in, accessed_by, written_by}

@@ -12,20 +12,20 @@ use Rattle.deneva_base.specs.declared.answers.Wake.{Wake}
 use Rattle.deneva_base.specs.Lists.{IsIn}
 use Rattle.deneva_base.specs.Rows.{Row, Rows}
 use Rattle.deneva_base.specs.Keys.{key_eq, number_lt}
-use Rattle.deneva_base.specs.Conditions.{MayAsk, MayCommit, MayAbort}
-use Rattle.deneva_base.specs.History.{Ask, Prepare, Commit, Abort, History, Asked, Grant, grants, waits, yeas, ended, left_waiting, is_woken, IsUnended, Conflict}
-use Rattle.deneva_base.specs.Latest.{Version, latest, newer, row_for, seen, writes_in}
-use Rattle.deneva_base.specs.Locks.{conflicts, blockers}
-use Rattle.deneva_base.specs.Order.{by_falling_stamp}
+use Rattle.protocol_rules.specs.Conditions.{MayAsk, MayCommit, MayAbort}
+use Rattle.protocol_rules.specs.History.{Ask, Prepare, Commit, Abort, History, Asked, Grant, grants, waits, yeas, ended, left_waiting, is_woken, IsUnended, Conflict}
+use Rattle.protocol_rules.specs.Latest.{Version, latest, newer, row_for, seen, writes_in}
+use Rattle.protocol_rules.specs.Locks.{conflicts, blockers}
+use Rattle.protocol_rules.specs.Order.{by_falling_stamp}
 use Rattle.deneva_base.specs.Lists.{sort}
-use Rattle.deneva_base.specs.WaitDie.{wait_die, elders, ahead, is_free, none, front, wake_of, wakes, younger_or}
-use Rattle.deneva_base.proofs.Words.{in_filter, filter_in, any_tells, any_at, and_true, and_parts, key_decides, attempt_tells}
-use Rattle.deneva_base.proofs.Sound.{Sound, sound_more}
-use Rattle.deneva_base.proofs.Known.{Known, known_more}
-use Rattle.deneva_base.proofs.Locks.{conflict_decides, blocker_in, in_blockers}
-use Rattle.deneva_base.proofs.Sorts.{Distinct, sort_in}
-use Rattle.deneva_base.proofs.Wakes.{distinct_waits}
-use Rattle.deneva_base.proofs.WaitDies.{front_in, queued, wait_die_wakes, woken_by}
+use Rattle.protocol_rules.specs.WaitDie.{wait_die, elders, ahead, is_free, none, front, wake_of, wakes, younger_or}
+use Rattle.deneva_base.proofs.Membership.{in_filter, filter_in, any_tells, any_at, and_true, and_parts, key_decides, attempt_tells}
+use Rattle.protocol_rules.proofs.Sound.{Sound, sound_more}
+use Rattle.protocol_rules.proofs.Known.{Known, known_more}
+use Rattle.protocol_rules.proofs.Locks.{conflict_decides, blocker_in, in_blockers}
+use Rattle.protocol_rules.proofs.Sorts.{Distinct, sort_in}
+use Rattle.protocol_rules.proofs.Wakes.{distinct_waits}
+use Rattle.protocol_rules.proofs.WaitDies.{front_in, queued, wait_die_wakes, woken_by}
 use Rattle.row_store.specs.declared.versions.Version.{Version as StoredVersion}
 use Rattle.row_store.specs.Stores.{version_at}
 use Rattle.lock_control.specs.declared.requests.Request.{Request}

@@ -13,18 +13,19 @@ use Rattle.deneva_base.specs.Lists.{IsIn}
 use Rattle.deneva_base.specs.Rows.{Rows}
 use Rattle.deneva_base.specs.Keys.{key_eq, attempt_eq, number_lt}
 use Rattle.deneva_base.specs.Modes.{writes}
-use Rattle.deneva_base.specs.Conditions.{MayPrepare}
-use Rattle.deneva_base.specs.History.{Ask, Prepare, Commit, Abort, History, Asked, Yea, grants, waits, yeas, ended, closed, IsUnended, WaitsNowhere, is_woken}
-use Rattle.deneva_base.specs.Latest.{row_for, writes_in, has_ended}
-use Rattle.deneva_base.specs.Rules.{Rule, Obeys}
-use Rattle.deneva_base.proofs.Words.{attempt_tells, not_ended}
-use Rattle.deneva_base.proofs.Sound.{Sound}
-use Rattle.deneva_base.proofs.Known.{Known}
-use Rattle.deneva_base.proofs.Traced.{Traced}
+use Rattle.protocol_rules.specs.Conditions.{MayPrepare}
+use Rattle.protocol_rules.specs.History.{Ask, Prepare, Commit, Abort, History, Asked, Yea, grants, waits, yeas, ended, closed, IsUnended, WaitsNowhere, is_woken}
+use Rattle.protocol_rules.specs.Latest.{row_for, writes_in, has_ended}
+use Rattle.protocol_rules.specs.Rules.{Rule, Obeys}
+use Rattle.deneva_base.proofs.Membership.{attempt_tells}
+use Rattle.protocol_rules.proofs.Unended.{not_ended}
+use Rattle.protocol_rules.proofs.Sound.{Sound}
+use Rattle.protocol_rules.proofs.Known.{Known}
+use Rattle.protocol_rules.proofs.Traced.{Traced}
 use Rattle.row_store.specs.declared.versions.Version.{Version as StoredVersion}
 use Rattle.row_store.specs.Stores.{version_at, newest}
 use Rattle.control_core.specs.Leaving.{last}
-use Rattle.deneva_base.specs.Leaving.{later, left_in as rows_in_vote}
+use Rattle.protocol_rules.specs.Leaving.{later, left_in as rows_in_vote}
 use Rattle.control_core.proofs.Lasts.{appends_in, left_is, row_for_both, later_twice}
 use Rattle.lock_control.specs.declared.requests.Request.{Request}
 use Rattle.lock_control.specs.declared.table.Table.{Table}

@@ -8,17 +8,17 @@ use Rattle.deneva_base.specs.declared.numbers.Attempt.{Attempt}
 use Rattle.deneva_base.specs.Lists.{IsIn}
 use Rattle.deneva_base.specs.Rows.{Rows}
 use Rattle.deneva_base.specs.Keys.{key_eq, key_lt, attempt_eq}
-use Rattle.deneva_base.specs.History.{History, Asked, Grant, grants, waits, ended, IsUnended}
-use Rattle.deneva_base.specs.Order.{Sorted, by_falling_stamp}
+use Rattle.protocol_rules.specs.History.{History, Asked, Grant, grants, waits, ended, IsUnended}
+use Rattle.protocol_rules.specs.Order.{Sorted, by_falling_stamp}
 use Rattle.deneva_base.specs.Lists.{sort}
-use Rattle.deneva_base.specs.Locks.{conflicts, blockers}
-use Rattle.deneva_base.specs.WaitDie.{front, queue, none, is_free}
-use Rattle.deneva_base.proofs.Words.{in_cases, in_left, in_right, in_filter, filter_in, any_tells, any_at, and_true, and_parts, key_tells, key_decides, attempt_tells}
-use Rattle.deneva_base.proofs.Known.{Known}
-use Rattle.deneva_base.proofs.Locks.{conflict_decides, blocker_in, in_blockers}
-use Rattle.deneva_base.proofs.Loops.{loop, loop_front}
-use Rattle.deneva_base.proofs.Sorts.{Distinct, distinct_filter, sort_in, in_sort, sorted_unique, falling_trans, falling_irrefl}
-use Rattle.deneva_base.proofs.WaitDies.{in_order, front_in}
+use Rattle.protocol_rules.specs.Locks.{conflicts, blockers}
+use Rattle.protocol_rules.specs.WaitDie.{front, queue, none, is_free}
+use Rattle.deneva_base.proofs.Membership.{in_cases, in_left, in_right, in_filter, filter_in, any_tells, any_at, and_true, and_parts, key_tells, key_decides, attempt_tells}
+use Rattle.protocol_rules.proofs.Known.{Known}
+use Rattle.protocol_rules.proofs.Locks.{conflict_decides, blocker_in, in_blockers}
+use Rattle.protocol_rules.proofs.Loops.{loop, loop_front}
+use Rattle.protocol_rules.proofs.Sorts.{Distinct, distinct_filter, sort_in, in_sort, sorted_unique, falling_trans, falling_irrefl}
+use Rattle.protocol_rules.proofs.WaitDies.{in_order, front_in}
 use Rattle.lock_control.specs.declared.requests.Request.{Request}
 use Rattle.lock_control.specs.declared.lines.Lines.{Lines}
 use Rattle.lock_control.specs.Requests.{conflicting, is_barred, any_conflicts, front_of}

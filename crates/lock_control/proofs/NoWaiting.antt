@@ -7,15 +7,15 @@ use Rattle.deneva_base.specs.declared.causes.Cause.TheVariants.{Held}
 use Rattle.deneva_base.specs.declared.answers.Answer.TheVariants.{Granted, Refused}
 use Rattle.deneva_base.specs.Lists.{IsIn}
 use Rattle.deneva_base.specs.Rows.{Rows}
-use Rattle.deneva_base.specs.Conditions.{MayAsk}
-use Rattle.deneva_base.specs.History.{History, Asked, Grant, grants, IsUnended, Conflict}
-use Rattle.deneva_base.specs.Latest.{latest, seen}
-use Rattle.deneva_base.specs.Locks.{blockers}
-use Rattle.deneva_base.specs.NoWait.{no_wait, held_or_granted}
-use Rattle.deneva_base.specs.Rules.{Obeys}
-use Rattle.deneva_base.specs.Wakes.{KeepsWakes}
-use Rattle.deneva_base.proofs.Locks.{blocker_in, in_blockers}
-use Rattle.deneva_base.proofs.NoWaitServed.{lawful}
+use Rattle.protocol_rules.specs.Conditions.{MayAsk}
+use Rattle.protocol_rules.specs.History.{History, Asked, Grant, grants, IsUnended, Conflict}
+use Rattle.protocol_rules.specs.Latest.{latest, seen}
+use Rattle.protocol_rules.specs.Locks.{blockers}
+use Rattle.protocol_rules.specs.NoWait.{no_wait, held_or_granted}
+use Rattle.protocol_rules.specs.Rules.{Obeys}
+use Rattle.protocol_rules.specs.Wakes.{KeepsWakes}
+use Rattle.protocol_rules.proofs.Locks.{blocker_in, in_blockers}
+use Rattle.protocol_rules.proofs.NoWaitServed.{lawful}
 use Rattle.row_store.specs.Stores.{version_at}
 use Rattle.lock_control.specs.declared.requests.Request.{Request}
 use Rattle.lock_control.specs.declared.table.Table.{Table}

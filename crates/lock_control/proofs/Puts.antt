@@ -9,8 +9,8 @@ use Rattle.deneva_base.specs.declared.numbers.Attempt.{Attempt}
 use Rattle.deneva_base.specs.Lists.{IsIn}
 use Rattle.deneva_base.specs.Keys.{key_cmp, key_lt, attempt_eq}
 use Rattle.deneva_base.proofs.Entries.{key_cmp_same}
-use Rattle.deneva_base.proofs.Sorts.{key_trans, key_total}
-use Rattle.deneva_base.proofs.Words.{filter_in, in_filter, attempt_tells}
+use Rattle.deneva_base.proofs.KeyOrder.{key_trans, key_total}
+use Rattle.deneva_base.proofs.Membership.{filter_in, in_filter, attempt_tells}
 use Rattle.lock_control.specs.declared.requests.Request.{Request}
 use Rattle.lock_control.specs.Requests.{put_request, mode_in}
 use Rattle.lock_control.specs.Tables.{put_key}

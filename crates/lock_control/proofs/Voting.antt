@@ -9,15 +9,15 @@ use Rattle.deneva_base.specs.Lists.{IsIn, greatest_by}
 use Rattle.deneva_base.specs.Rows.{Rows}
 use Rattle.deneva_base.specs.Keys.{attempt_eq}
 use Rattle.deneva_base.specs.Modes.{writes}
-use Rattle.deneva_base.specs.History.{Ask, Prepare, Commit, Abort, History, Grant, Decided, grants, decided, ended, IsUnended, Clash, WaitsNowhere}
-use Rattle.deneva_base.specs.Locks.{clash, met, greatest_met}
-use Rattle.deneva_base.specs.Rules.{Rule, Obeys}
-use Rattle.deneva_base.proofs.Words.{attempt_decides, and_parts, any_found}
-use Rattle.deneva_base.proofs.Belows.{greatest_le}
-use Rattle.deneva_base.proofs.Timestamps.{top_by}
-use Rattle.deneva_base.proofs.Sound.{Sound}
-use Rattle.deneva_base.proofs.Traced.{Traced}
-use Rattle.deneva_base.proofs.Locks.{conflict_decides, floor_top, met_true}
+use Rattle.protocol_rules.specs.History.{Ask, Prepare, Commit, Abort, History, Grant, Decided, grants, decided, ended, IsUnended, Clash, WaitsNowhere}
+use Rattle.protocol_rules.specs.Locks.{clash, met, greatest_met}
+use Rattle.protocol_rules.specs.Rules.{Rule, Obeys}
+use Rattle.deneva_base.proofs.Membership.{attempt_decides, and_parts, any_found}
+use Rattle.protocol_rules.proofs.Belows.{greatest_le}
+use Rattle.protocol_rules.proofs.Timestamps.{top_by}
+use Rattle.protocol_rules.proofs.Sound.{Sound}
+use Rattle.protocol_rules.proofs.Traced.{Traced}
+use Rattle.protocol_rules.proofs.Locks.{conflict_decides, floor_top, met_true}
 use Rattle.lock_control.specs.declared.requests.Request.{Request}
 use Rattle.lock_control.specs.Requests.{mode_in, floor_in}
 use Rattle.lock_control.specs.Tables.{floor_at}

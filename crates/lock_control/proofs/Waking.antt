@@ -7,17 +7,17 @@ use Rattle.deneva_base.specs.Lists.{IsIn}
 use Rattle.deneva_base.specs.Rows.{Rows}
 use Rattle.deneva_base.specs.Keys.{key_eq, attempt_eq}
 use Rattle.deneva_base.specs.Modes.{writes}
-use Rattle.deneva_base.specs.History.{History, Asked, Grant, Yea, Decided, grant_of, grant_of_wake, grants, waits, yeas, decided, ended, is_woken, IsUnended}
-use Rattle.deneva_base.specs.Latest.{writes_in}
-use Rattle.deneva_base.specs.Order.{by_falling_stamp}
+use Rattle.protocol_rules.specs.History.{History, Asked, Grant, Yea, Decided, grant_of, grant_of_wake, grants, waits, yeas, decided, ended, is_woken, IsUnended}
+use Rattle.protocol_rules.specs.Latest.{writes_in}
+use Rattle.protocol_rules.specs.Order.{by_falling_stamp}
 use Rattle.deneva_base.specs.Lists.{insert, sort}
-use Rattle.deneva_base.specs.WaitDie.{front, wake_of, wakes, none, is_free}
-use Rattle.deneva_base.proofs.Words.{in_cases, in_left, in_right, in_map, in_map_from, in_filter, filter_in, attempt_tells}
-use Rattle.deneva_base.proofs.Sound.{Sound}
-use Rattle.deneva_base.proofs.Known.{Known}
-use Rattle.deneva_base.proofs.Sorts.{sort_in, in_sort}
-use Rattle.deneva_base.proofs.WaitDies.{front_in}
-use Rattle.deneva_base.proofs.Wakes.{woken_in, in_woken, wake_grants, grant_wakes}
+use Rattle.protocol_rules.specs.WaitDie.{front, wake_of, wakes, none, is_free}
+use Rattle.deneva_base.proofs.Membership.{in_cases, in_left, in_right, in_map, in_map_from, in_filter, filter_in, attempt_tells}
+use Rattle.protocol_rules.proofs.Sound.{Sound}
+use Rattle.protocol_rules.proofs.Known.{Known}
+use Rattle.protocol_rules.proofs.Sorts.{sort_in, in_sort}
+use Rattle.protocol_rules.proofs.WaitDies.{front_in}
+use Rattle.protocol_rules.proofs.Wakes.{woken_in, in_woken, wake_grants, grant_wakes}
 use Rattle.control_core.specs.Leaving.{last}
 use Rattle.control_core.proofs.Lasts.{appends_in}
 use Rattle.lock_control.specs.declared.requests.Request.{Request}

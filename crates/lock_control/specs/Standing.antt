@@ -8,9 +8,9 @@ use Rattle.deneva_base.specs.Lists.{IsIn}
 use Rattle.deneva_base.specs.Keys.{key_lt}
 use Rattle.deneva_base.specs.Modes.{writes}
 use Rattle.deneva_base.specs.Rows.{Row, Rows}
-use Rattle.deneva_base.specs.History.{History, Asked, Grant, Yea, Decided, grants, waits, yeas, decided, IsUnended}
-use Rattle.deneva_base.specs.Latest.{Version, writes_in, has_ended}
-use Rattle.deneva_base.specs.Rules.{Rule, Obeys}
+use Rattle.protocol_rules.specs.History.{History, Asked, Grant, Yea, Decided, grants, waits, yeas, decided, IsUnended}
+use Rattle.protocol_rules.specs.Latest.{Version, writes_in, has_ended}
+use Rattle.protocol_rules.specs.Rules.{Rule, Obeys}
 use Rattle.row_store.specs.declared.versions.Version.{Version as StoredVersion}
 use Rattle.row_store.specs.Stores.{version_at}
 use Rattle.control_core.specs.Leaving.{last}

@@ -2,7 +2,7 @@
 ghost use Rattle.std.specs.Prelude.{◌≡◌, ◌++◌, map, None, IfOk, OnOk, OnErr};
 ghost use Rattle.deneva_base.specs.Lists.{greatest_by};
 ghost use Rattle.deneva_base.specs.declared.keys.Key.{Key};
-ghost use Rattle.deneva_base.specs.WaitDie.{none};
+ghost use Rattle.protocol_rules.specs.WaitDie.{none};
 ghost use Rattle.lock_control.specs.Requests.{least_bar, is_stopped};
 ghost use Rattle.lock_control.specs.Tables.{locks_at, no_locks, floor_at, with_request, ended_in, all_ended, granted_in, all_granted, waiter_for, front_over, SetsLocks, SameLocks};
 

@@ -1,12 +1,12 @@
 //! Two-phase locking as a control.
 ghost use Rattle.std.specs.Prelude.{true, refl};
-ghost use Rattle.deneva_base.specs.NoWait.{no_wait};
-ghost use Rattle.deneva_base.specs.WaitDie.{wait_die};
+ghost use Rattle.protocol_rules.specs.NoWait.{no_wait};
+ghost use Rattle.protocol_rules.specs.WaitDie.{wait_die};
 ghost use Rattle.deneva_base.specs.declared.config.Protocol.TheVariants.{NoWait, WaitDie};
-ghost use Rattle.deneva_base.proofs.NoWaits.{no_wait_windows};
-ghost use Rattle.deneva_base.proofs.NoWaitServed.{waits_law};
-ghost use Rattle.deneva_base.proofs.WaitDieServed.{waits_law as wait_die_law};
-ghost use Rattle.deneva_base.proofs.WaitDies.{wait_die_windows};
+ghost use Rattle.protocol_rules.proofs.NoWaits.{no_wait_windows};
+ghost use Rattle.protocol_rules.proofs.NoWaitServed.{waits_law};
+ghost use Rattle.protocol_rules.proofs.WaitDieServed.{waits_law as wait_die_law};
+ghost use Rattle.protocol_rules.proofs.WaitDies.{wait_die_windows};
 ghost use Rattle.lock_control.specs.Standing.{Stands};
 
 use crate::requests::Request;

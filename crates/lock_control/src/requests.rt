@@ -1,7 +1,7 @@
 //! The requests for one key.
 ghost use Rattle.std.specs.Prelude.{◌≡◌, [], not, filter, map, None, IfOk, OnOk, OnErr};
 ghost use Rattle.deneva_base.specs.Keys.{attempt_eq};
-ghost use Rattle.deneva_base.specs.WaitDie.{none};
+ghost use Rattle.protocol_rules.specs.WaitDie.{none};
 ghost use Rattle.lock_control.specs.Requests.{conflicting, least_bar, is_stopped, is_barred, any_conflicts, front_of, put_request, mode_in, floor_in, accessed_by, written_by, grants_to};
 
 use deneva_base::{Attempt, Mode, NoMemory};

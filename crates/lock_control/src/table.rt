@@ -8,8 +8,8 @@ ghost use Rattle.deneva_base.specs.declared.answers.Answer.TheVariants.{Granted,
 ghost use Rattle.deneva_base.specs.declared.answers.Vote.TheVariants.{Yes};
 ghost use Rattle.row_store.specs.Stores.{version_at, has};
 ghost use Rattle.control_core.specs.Leaving.{IsLoadedStore};
-ghost use Rattle.deneva_base.specs.Latest.{row_for};
-ghost use Rattle.deneva_base.specs.WaitDie.{none};
+ghost use Rattle.protocol_rules.specs.Latest.{row_for};
+ghost use Rattle.protocol_rules.specs.WaitDie.{none};
 ghost use Rattle.lock_control.specs.Requests.{waiting};
 ghost use Rattle.lock_control.specs.Tables.{locks_at, holding_at, floor_at, front_over};
 ghost use Rattle.lock_control.specs.Changes.{read_in, IsFresh, Adds, MayNote, Promises, MayReserve, Ends, EndsAndWakes, Wakes, offered, comes_after, version_after, wake_for};

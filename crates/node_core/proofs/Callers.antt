@@ -11,11 +11,11 @@ use Rattle.deneva_base.specs.declared.answers.Answer.TheVariants.{Granted, Waits
 use Rattle.deneva_base.specs.declared.numbers.Number.{Number}
 use Rattle.deneva_base.specs.declared.rows.Keyed.{Keyed}
 use Rattle.deneva_base.specs.Lists.{IsIn}
-use Rattle.deneva_base.specs.Conditions.{MayPrepare, MayCommit, MayAbort}
-use Rattle.deneva_base.specs.History.{Ask as Asked', Prepare as Prepared, Commit as Committed, Abort as Aborted, History, Asked, Yea, asks, waits, left_waiting, yea, yeas, is_woken, wakes_this}
-use Rattle.deneva_base.specs.Wakes.{Once, WakesWaiters}
-use Rattle.deneva_base.proofs.Words.{and_parts, attempt_decides, key_decides}
-use Rattle.deneva_base.proofs.Traced.{wakes_this_true}
+use Rattle.protocol_rules.specs.Conditions.{MayPrepare, MayCommit, MayAbort}
+use Rattle.protocol_rules.specs.History.{Ask as Asked', Prepare as Prepared, Commit as Committed, Abort as Aborted, History, Asked, Yea, asks, waits, left_waiting, yea, yeas, is_woken, wakes_this}
+use Rattle.protocol_rules.specs.Wakes.{Once, WakesWaiters}
+use Rattle.deneva_base.proofs.Membership.{and_parts, attempt_decides, key_decides}
+use Rattle.protocol_rules.proofs.Traced.{wakes_this_true}
 use Rattle.server_core.specs.declared.messages.Msg.{Msg}
 use Rattle.server_core.specs.declared.messages.Msg.TheVariants.{Ask, Prepare}
 use Rattle.server_core.specs.Participant.{calls}

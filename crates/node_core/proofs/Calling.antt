@@ -6,11 +6,11 @@ use Rattle.deneva_base.specs.declared.answers.Wake.{Wake}
 use Rattle.deneva_base.specs.declared.numbers.Number.{Number}
 use Rattle.deneva_base.specs.declared.rows.Keyed.{Keyed}
 use Rattle.deneva_base.specs.Lists.{IsIn}
-use Rattle.deneva_base.specs.History.{History, waits}
+use Rattle.protocol_rules.specs.History.{History, waits}
 use Rattle.deneva_base.specs.Rows.{Rows}
-use Rattle.deneva_base.specs.Rules.{Rule}
-use Rattle.deneva_base.specs.Wakes.{WakesWaiters}
-use Rattle.deneva_base.specs.Conditions.{MayCommit, MayAbort}
+use Rattle.protocol_rules.specs.Rules.{Rule}
+use Rattle.protocol_rules.specs.Wakes.{WakesWaiters}
+use Rattle.protocol_rules.specs.Conditions.{MayCommit, MayAbort}
 use Rattle.txn_program.specs.Serial.{all_ids}
 use Rattle.server_core.specs.declared.messages.Msg.{Msg}
 use Rattle.server_core.specs.declared.messages.Msg.TheVariants.{Prepare, Commit, Abort}

@@ -9,12 +9,12 @@ use Rattle.deneva_base.specs.declared.keys.Mode.{Mode}
 use Rattle.deneva_base.specs.declared.rows.Keyed.{Keyed}
 use Rattle.deneva_base.specs.declared.answers.Answer.{Answer}
 use Rattle.deneva_base.specs.declared.answers.Vote.{Vote}
-use Rattle.deneva_base.specs.Conditions.{MayAsk, MayPrepare, MayCommit, MayAbort}
-use Rattle.deneva_base.specs.History.{Ask as Asked, Prepare as Prepared, Commit as Committed, Abort as Aborted, History}
+use Rattle.protocol_rules.specs.Conditions.{MayAsk, MayPrepare, MayCommit, MayAbort}
+use Rattle.protocol_rules.specs.History.{Ask as Asked, Prepare as Prepared, Commit as Committed, Abort as Aborted, History}
 use Rattle.deneva_base.specs.Rows.{Rows}
-use Rattle.deneva_base.specs.Rules.{Rule}
+use Rattle.protocol_rules.specs.Rules.{Rule}
 use Rattle.server_core.specs.Coordinator.{coordinator}
-use Rattle.deneva_base.specs.Leaving.{rows_left}
+use Rattle.protocol_rules.specs.Leaving.{rows_left}
 use Rattle.server_core.specs.NodeRows.{rows_under}
 use Rattle.server_core.specs.Participant.{call_of, calls, participant}
 use Rattle.server_core.specs.Roles.{Role, FitsRole, said_by, rows_of_role}

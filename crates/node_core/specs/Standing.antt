@@ -1,8 +1,8 @@
 -- What a node stands for.
 use Rattle.std.specs.Prelude.{◌≡◌, List}
-use Rattle.deneva_base.specs.History.{History}
+use Rattle.protocol_rules.specs.History.{History}
 use Rattle.deneva_base.specs.Rows.{Rows}
-use Rattle.deneva_base.specs.Rules.{Rule}
+use Rattle.protocol_rules.specs.Rules.{Rule}
 use Rattle.server_core.specs.Participant.{calls}
 use Rattle.server_core.specs.Setting.{loaded_at}
 use Rattle.server_core.specs.VotingFits.{AllFit}

@@ -1,7 +1,7 @@
 -- Two Asks for one row and the Abort of the first fit, one after another.
 use Rattle.std.proofs.Common.{◌≡◌, [], ◌∷◌, refl, ap, inl, inr, ⊎_elim, arith}
-use Rattle.deneva_base.specs.Conditions.{MayAsk, MayAbort}
-use Rattle.deneva_base.specs.History.{Asked}
+use Rattle.protocol_rules.specs.Conditions.{MayAsk, MayAbort}
+use Rattle.protocol_rules.specs.History.{Asked}
 use Rattle.deneva_base.specs.Lists.{IsIn}
 use Rattle.deneva_base.specs.declared.config.Protocol.TheVariants.{WaitDie}
 use Rattle.deneva_base.specs.declared.keys.Mode.TheVariants.{Update}

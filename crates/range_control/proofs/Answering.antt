@@ -10,13 +10,13 @@ use Rattle.deneva_base.specs.Lists.{IsIn}
 use Rattle.deneva_base.specs.Rows.{Row, Rows}
 use Rattle.deneva_base.specs.Keys.{loaded_version}
 use Rattle.deneva_base.specs.Modes.{reads}
-use Rattle.deneva_base.specs.History.{History, yeas, IsUnended}
-use Rattle.deneva_base.specs.Latest.{Version, latest, seen}
-use Rattle.deneva_base.specs.Ranged.{past, bound_of}
-use Rattle.deneva_base.specs.Rules.{Rule, Obeys}
-use Rattle.deneva_base.proofs.Sound.{Sound, writes_found}
-use Rattle.deneva_base.proofs.Known.{Known}
-use Rattle.deneva_base.proofs.Traced.{Traced}
+use Rattle.protocol_rules.specs.History.{History, yeas, IsUnended}
+use Rattle.protocol_rules.specs.Latest.{Version, latest, seen}
+use Rattle.protocol_rules.specs.Ranged.{past, bound_of}
+use Rattle.protocol_rules.specs.Rules.{Rule, Obeys}
+use Rattle.protocol_rules.proofs.Sound.{Sound, writes_found}
+use Rattle.protocol_rules.proofs.Known.{Known}
+use Rattle.protocol_rules.proofs.Traced.{Traced}
 use Rattle.row_store.specs.declared.versions.Version.{Version as StoredVersion}
 use Rattle.row_store.specs.Stores.{Seen, version_at, row_in}
 use Rattle.control_core.specs.Leaving.{IsLoadedStore}

@@ -13,12 +13,13 @@ use Rattle.deneva_base.specs.Lists.{IsIn, greatest_by}
 use Rattle.deneva_base.specs.Rows.{Row, Rows}
 use Rattle.deneva_base.specs.Modes.{reads}
 use Rattle.deneva_base.specs.Keys.{key_eq, attempt_eq, number_lt, loaded_version}
-use Rattle.deneva_base.specs.Conditions.{MayAsk}
-use Rattle.deneva_base.specs.History.{Ask, History, Grant, Yea, Decided, grants, yeas, decided, ended, closed}
-use Rattle.deneva_base.specs.Latest.{Version, latest, seen}
-use Rattle.deneva_base.specs.Ranged.{wrote, accessed, past_committed}
-use Rattle.deneva_base.proofs.Words.{any_found, in_left, in_right, key_decides, key_tells, attempt_tells, not_ended}
-use Rattle.deneva_base.proofs.Sound.{Sound}
+use Rattle.protocol_rules.specs.Conditions.{MayAsk}
+use Rattle.protocol_rules.specs.History.{Ask, History, Grant, Yea, Decided, grants, yeas, decided, ended, closed}
+use Rattle.protocol_rules.specs.Latest.{Version, latest, seen}
+use Rattle.protocol_rules.specs.Ranged.{wrote, accessed, past_committed}
+use Rattle.deneva_base.proofs.Membership.{any_found, in_left, in_right, key_decides, key_tells, attempt_tells}
+use Rattle.protocol_rules.proofs.Unended.{not_ended}
+use Rattle.protocol_rules.proofs.Sound.{Sound}
 use Rattle.row_store.specs.Stores.{version_at}
 use Rattle.range_control.specs.declared.ends.Upper.{Upper}
 use Rattle.range_control.specs.declared.table.Table.{Table}

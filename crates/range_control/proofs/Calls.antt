@@ -10,20 +10,20 @@ use Rattle.deneva_base.specs.declared.answers.Answer.TheVariants.{Granted}
 use Rattle.deneva_base.specs.declared.answers.Vote.{Vote}
 use Rattle.deneva_base.specs.Lists.{IsIn, least_by}
 use Rattle.deneva_base.specs.Rows.{Row, Rows}
-use Rattle.deneva_base.specs.Conditions.{MayAsk, MayPrepare, MayCommit, MayAbort}
-use Rattle.deneva_base.specs.History.{Ask, Prepare, Commit, Abort, History, Asked, Grant, Yea, Decided, grants, waits, yeas, decided, IsUnended}
-use Rattle.deneva_base.specs.Latest.{latest, has_ended, seen}
-use Rattle.deneva_base.specs.Leaving.{rows_left}
-use Rattle.deneva_base.specs.Ranged.{accessed, past_committed, past_prepared, grant_latest, low_of, low, under_prepared, high, lo_key, hi_by, window_vote}
-use Rattle.deneva_base.specs.Maat.{maat, maat_vote}
-use Rattle.deneva_base.specs.Wakes.{KeepsWakes}
-use Rattle.deneva_base.proofs.Belows.{greatest_le}
-use Rattle.deneva_base.proofs.Sound.{Sound, sound}
-use Rattle.deneva_base.proofs.Known.{Known, known}
-use Rattle.deneva_base.proofs.Traced.{Traced, traced}
-use Rattle.deneva_base.proofs.Rangeds.{windows_law, waits_law, wakes_law}
-use Rattle.deneva_base.proofs.Maats.{ranging}
-use Rattle.deneva_base.proofs.Boundeds.{low_le}
+use Rattle.protocol_rules.specs.Conditions.{MayAsk, MayPrepare, MayCommit, MayAbort}
+use Rattle.protocol_rules.specs.History.{Ask, Prepare, Commit, Abort, History, Asked, Grant, Yea, Decided, grants, waits, yeas, decided, IsUnended}
+use Rattle.protocol_rules.specs.Latest.{latest, has_ended, seen}
+use Rattle.protocol_rules.specs.Leaving.{rows_left}
+use Rattle.protocol_rules.specs.Ranged.{accessed, past_committed, past_prepared, grant_latest, low_of, low, under_prepared, high, lo_key, hi_by, window_vote}
+use Rattle.protocol_rules.specs.Maat.{maat, maat_vote}
+use Rattle.protocol_rules.specs.Wakes.{KeepsWakes}
+use Rattle.protocol_rules.proofs.Belows.{greatest_le}
+use Rattle.protocol_rules.proofs.Sound.{Sound, sound}
+use Rattle.protocol_rules.proofs.Known.{Known, known}
+use Rattle.protocol_rules.proofs.Traced.{Traced, traced}
+use Rattle.protocol_rules.proofs.Rangeds.{windows_law, waits_law, wakes_law}
+use Rattle.protocol_rules.proofs.Maats.{ranging}
+use Rattle.protocol_rules.proofs.Boundeds.{low_le}
 use Rattle.row_store.specs.declared.versions.Version.{Version as StoredVersion}
 use Rattle.row_store.specs.Stores.{version_at, has, row_in}
 use Rattle.control_core.proofs.Lasts.{last_rows}

@@ -5,7 +5,7 @@ use Rattle.deneva_base.specs.declared.numbers.Attempt.{Attempt}
 use Rattle.deneva_base.specs.declared.numbers.Number.{Number}
 use Rattle.deneva_base.specs.Lists.{IsIn}
 use Rattle.deneva_base.specs.Keys.{attempt_eq}
-use Rattle.deneva_base.proofs.Words.{filter_in, attempt_tells}
+use Rattle.deneva_base.proofs.Membership.{filter_in, attempt_tells}
 use Rattle.range_control.specs.declared.accesses.Window.{Window}
 use Rattle.range_control.specs.declared.accesses.Held.{Held}
 use Rattle.range_control.specs.Accesses.{Accesses, own_in, prepared_in, prepared, passed, without, ended_in}

@@ -9,14 +9,14 @@ use Rattle.deneva_base.specs.Lists.{IsIn, greatest_by}
 use Rattle.deneva_base.specs.Rows.{Rows}
 use Rattle.deneva_base.specs.Modes.{reads}
 use Rattle.deneva_base.specs.Keys.{key_eq, attempt_eq, number_lt}
-use Rattle.deneva_base.specs.Conditions.{MayCommit, MayAbort}
-use Rattle.deneva_base.specs.History.{Commit, Abort, History, Grant, Yea, Decided, grants, yeas, decided, ended, IsUnended}
-use Rattle.deneva_base.specs.Latest.{row_for, writes_in, has_ended}
-use Rattle.deneva_base.specs.Leaving.{later, left_in as rows_in_vote}
-use Rattle.deneva_base.specs.Ranged.{lists, wrote, accessed, past_committed}
-use Rattle.deneva_base.proofs.Words.{filter_in, any_at, any_found, and_true, and_parts, key_decides, attempt_decides, attempt_tells}
-use Rattle.deneva_base.proofs.Sound.{Sound}
-use Rattle.deneva_base.proofs.Rangeds.{accessed_at}
+use Rattle.protocol_rules.specs.Conditions.{MayCommit, MayAbort}
+use Rattle.protocol_rules.specs.History.{Commit, Abort, History, Grant, Yea, Decided, grants, yeas, decided, ended, IsUnended}
+use Rattle.protocol_rules.specs.Latest.{row_for, writes_in, has_ended}
+use Rattle.protocol_rules.specs.Leaving.{later, left_in as rows_in_vote}
+use Rattle.protocol_rules.specs.Ranged.{lists, wrote, accessed, past_committed}
+use Rattle.deneva_base.proofs.Membership.{filter_in, any_at, any_found, and_true, and_parts, key_decides, attempt_decides, attempt_tells}
+use Rattle.protocol_rules.proofs.Sound.{Sound}
+use Rattle.protocol_rules.proofs.Rangeds.{accessed_at}
 use Rattle.row_store.specs.declared.versions.Version.{Version as StoredVersion}
 use Rattle.row_store.specs.Stores.{newest}
 use Rattle.control_core.specs.Leaving.{last}

@@ -10,15 +10,15 @@ use Rattle.deneva_base.specs.declared.answers.Vote.{Vote}
 use Rattle.deneva_base.specs.declared.answers.Vote.TheVariants.{Yes, No}
 use Rattle.deneva_base.specs.Lists.{IsIn, least_by}
 use Rattle.deneva_base.specs.Rows.{Row, Rows}
-use Rattle.deneva_base.specs.History.{Ask, Prepare, Commit, Abort, History, Grant, Yea, Decided, grants, yea, yeas, decided, ended, closed}
+use Rattle.protocol_rules.specs.History.{Ask, Prepare, Commit, Abort, History, Grant, Yea, Decided, grants, yea, yeas, decided, ended, closed}
 use Rattle.deneva_base.specs.Keys.{key_eq, attempt_eq, number_lt}
-use Rattle.deneva_base.specs.Latest.{Version, newer, latest, row_for, writes_in}
-use Rattle.deneva_base.specs.Ranged.{lists, wrote, low_of, low, under_prepared, high, lo_key, hi_by}
-use Rattle.deneva_base.specs.Maat.{maat}
-use Rattle.deneva_base.specs.Rules.{Rule, Obeys}
-use Rattle.deneva_base.proofs.Words.{any_found, and_parts, key_decides, attempt_decides, attempt_tells}
-use Rattle.deneva_base.proofs.Sound.{Sound, sound, row_some, writes_are}
-use Rattle.deneva_base.proofs.Maats.{window_yes}
+use Rattle.protocol_rules.specs.Latest.{Version, newer, latest, row_for, writes_in}
+use Rattle.protocol_rules.specs.Ranged.{lists, wrote, low_of, low, under_prepared, high, lo_key, hi_by}
+use Rattle.protocol_rules.specs.Maat.{maat}
+use Rattle.protocol_rules.specs.Rules.{Rule, Obeys}
+use Rattle.deneva_base.proofs.Membership.{any_found, and_parts, key_decides, attempt_decides, attempt_tells}
+use Rattle.protocol_rules.proofs.Sound.{Sound, sound, row_some, writes_are}
+use Rattle.protocol_rules.proofs.Maats.{window_yes}
 
 -- a least measure is at most 2^63
 pub least_most : {A : Type 0} (f : A → ℕ) (xs : List A) → least_by f xs ≤ 2 ^ 63

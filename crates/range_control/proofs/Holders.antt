@@ -6,13 +6,14 @@ use Rattle.deneva_base.specs.declared.numbers.Attempt.{Attempt}
 use Rattle.deneva_base.specs.Lists.{IsIn, greatest_by}
 use Rattle.deneva_base.specs.Rows.{Rows}
 use Rattle.deneva_base.specs.Keys.{key_eq, attempt_eq}
-use Rattle.deneva_base.specs.History.{History, Grant, Yea, grants, yeas, IsUnended}
-use Rattle.deneva_base.specs.Latest.{has_ended}
-use Rattle.deneva_base.specs.Ranged.{lists, accessed, past_prepared, past}
-use Rattle.deneva_base.proofs.Words.{in_left, in_right, in_map, in_map_from, in_filter, filter_in, any_found, and_true, and_parts, key_decides, attempt_decides, attempt_tells, not_ended, is_unended}
-use Rattle.deneva_base.proofs.Belows.{greatest_le}
-use Rattle.deneva_base.proofs.Timestamps.{top_by}
-use Rattle.deneva_base.proofs.Rangeds.{accessed_at}
+use Rattle.protocol_rules.specs.History.{History, Grant, Yea, grants, yeas, IsUnended}
+use Rattle.protocol_rules.specs.Latest.{has_ended}
+use Rattle.protocol_rules.specs.Ranged.{lists, accessed, past_prepared, past}
+use Rattle.deneva_base.proofs.Membership.{in_left, in_right, in_map, in_map_from, in_filter, filter_in, any_found, and_true, and_parts, key_decides, attempt_decides, attempt_tells}
+use Rattle.protocol_rules.proofs.Unended.{not_ended, is_unended}
+use Rattle.protocol_rules.proofs.Belows.{greatest_le}
+use Rattle.protocol_rules.proofs.Timestamps.{top_by}
+use Rattle.protocol_rules.proofs.Rangeds.{accessed_at}
 use Rattle.range_control.specs.declared.accesses.Window.{Window}
 use Rattle.range_control.specs.declared.accesses.Held.{Held}
 use Rattle.range_control.specs.Accesses.{past_window, past_over, own_in}

@@ -5,8 +5,8 @@ use Rattle.deneva_base.specs.declared.keys.Key.{Key}
 use Rattle.deneva_base.specs.declared.numbers.Attempt.{Attempt}
 use Rattle.deneva_base.specs.Keys.{key_eq, key_lt, attempt_eq, attempt_lt}
 use Rattle.deneva_base.specs.Lists.{IsIn}
-use Rattle.deneva_base.specs.Ranged.{least_key, least_attempt, first_key, first_attempt}
-use Rattle.deneva_base.proofs.Words.{key_decides, attempt_decides}
+use Rattle.protocol_rules.specs.Ranged.{least_key, least_attempt, first_key, first_attempt}
+use Rattle.deneva_base.proofs.Membership.{key_decides, attempt_decides}
 use Rattle.range_control.specs.Ends.{first_by}
 use Rattle.range_control.proofs.Firsts.{Ordered, First, first_some, some_is, attempts_ordered}
 

@@ -9,11 +9,11 @@ use Rattle.deneva_base.specs.Lists.{IsIn, greatest_by}
 use Rattle.deneva_base.specs.Rows.{Rows}
 use Rattle.deneva_base.specs.Modes.{reads}
 use Rattle.deneva_base.specs.Keys.{key_lt}
-use Rattle.deneva_base.specs.History.{History, Grant, Yea, grants, yeas, IsUnended}
-use Rattle.deneva_base.specs.Ranged.{lists, past, low_of, low, first_key, lo_key}
-use Rattle.deneva_base.proofs.Words.{in_map, in_map_from, in_filter, filter_in, attempt_decides, attempt_tells}
-use Rattle.deneva_base.proofs.Belows.{greatest_le}
-use Rattle.deneva_base.proofs.Timestamps.{top_by}
+use Rattle.protocol_rules.specs.History.{History, Grant, Yea, grants, yeas, IsUnended}
+use Rattle.protocol_rules.specs.Ranged.{lists, past, low_of, low, first_key, lo_key}
+use Rattle.deneva_base.proofs.Membership.{in_map, in_map_from, in_filter, filter_in, attempt_decides, attempt_tells}
+use Rattle.protocol_rules.proofs.Belows.{greatest_le}
+use Rattle.protocol_rules.proofs.Timestamps.{top_by}
 use Rattle.range_control.specs.Ends.{lower_before, first_by, lower_end}
 use Rattle.range_control.specs.Accesses.{past_over, own_in, low_in}
 use Rattle.range_control.specs.Standing.{State, held_of, Tracks}

@@ -4,7 +4,7 @@ use Rattle.std.specs.Map.{lookup}
 use Rattle.deneva_base.specs.declared.keys.Key.{Key}
 use Rattle.deneva_base.specs.declared.numbers.Attempt.{Attempt}
 use Rattle.deneva_base.specs.Keys.{attempt_eq}
-use Rattle.deneva_base.proofs.Words.{key_tells, attempt_tells}
+use Rattle.deneva_base.proofs.Membership.{key_tells, attempt_tells}
 use Rattle.row_store.proofs.Tables.{same_key-key_eq}
 use Rattle.range_control.specs.declared.accesses.Line.{Line}
 use Rattle.range_control.specs.declared.parts.Part.{Part}

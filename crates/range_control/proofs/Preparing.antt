@@ -12,12 +12,13 @@ use Rattle.deneva_base.specs.Lists.{IsIn}
 use Rattle.deneva_base.specs.Rows.{Rows}
 use Rattle.deneva_base.specs.Modes.{reads}
 use Rattle.deneva_base.specs.Keys.{key_eq, attempt_eq, attempt_lt, number_lt}
-use Rattle.deneva_base.specs.Conditions.{MayPrepare}
-use Rattle.deneva_base.specs.History.{Prepare, History, Grant, Yea, Decided, grants, yeas, decided, ended, IsUnended}
-use Rattle.deneva_base.specs.Latest.{has_ended, writes_in}
-use Rattle.deneva_base.specs.Ranged.{lists}
-use Rattle.deneva_base.proofs.Words.{filter_in, and_parts, key_decides, attempt_tells, not_ended}
-use Rattle.deneva_base.proofs.Sound.{Sound}
+use Rattle.protocol_rules.specs.Conditions.{MayPrepare}
+use Rattle.protocol_rules.specs.History.{Prepare, History, Grant, Yea, Decided, grants, yeas, decided, ended, IsUnended}
+use Rattle.protocol_rules.specs.Latest.{has_ended, writes_in}
+use Rattle.protocol_rules.specs.Ranged.{lists}
+use Rattle.deneva_base.proofs.Membership.{filter_in, and_parts, key_decides, attempt_tells}
+use Rattle.protocol_rules.proofs.Unended.{not_ended}
+use Rattle.protocol_rules.proofs.Sound.{Sound}
 use Rattle.control_core.proofs.Lasts.{appends_in}
 use Rattle.range_control.specs.declared.ends.Upper.{Upper}
 use Rattle.range_control.specs.declared.accesses.Window.{Window}

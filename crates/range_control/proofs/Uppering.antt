@@ -9,12 +9,13 @@ use Rattle.deneva_base.specs.Lists.{IsIn, least_by}
 use Rattle.deneva_base.specs.Rows.{Rows}
 use Rattle.deneva_base.specs.Modes.{reads}
 use Rattle.deneva_base.specs.Keys.{key_eq, attempt_eq, attempt_lt, number_lt}
-use Rattle.deneva_base.specs.History.{History, Grant, Yea, Decided, grants, yeas, decided, IsUnended}
-use Rattle.deneva_base.specs.Latest.{has_ended}
-use Rattle.deneva_base.specs.Ranged.{lists, wrote, under_prepared, under_committed, high, first_attempt, hi_by}
-use Rattle.deneva_base.proofs.Words.{in_left, in_right, in_cases, in_map, in_map_from, in_filter, filter_in, any_at, any_found, and_true, and_parts, key_decides, attempt_decides, not_ended, is_unended}
-use Rattle.deneva_base.proofs.Sound.{Sound}
-use Rattle.deneva_base.proofs.Rangeds.{bottom_by}
+use Rattle.protocol_rules.specs.History.{History, Grant, Yea, Decided, grants, yeas, decided, IsUnended}
+use Rattle.protocol_rules.specs.Latest.{has_ended}
+use Rattle.protocol_rules.specs.Ranged.{lists, wrote, under_prepared, under_committed, high, first_attempt, hi_by}
+use Rattle.deneva_base.proofs.Membership.{in_left, in_right, in_cases, in_map, in_map_from, in_filter, filter_in, any_at, any_found, and_true, and_parts, key_decides, attempt_decides}
+use Rattle.protocol_rules.proofs.Unended.{not_ended, is_unended}
+use Rattle.protocol_rules.proofs.Sound.{Sound}
+use Rattle.protocol_rules.proofs.Rangeds.{bottom_by}
 use Rattle.range_control.specs.declared.ends.Upper.{Upper}
 use Rattle.range_control.specs.declared.accesses.Window.{Window}
 use Rattle.range_control.specs.Ends.{upper_before, first_by, upper_end, attempt_or}

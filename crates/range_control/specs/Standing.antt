@@ -7,11 +7,11 @@ use Rattle.deneva_base.specs.Lists.{IsIn, greatest_by}
 use Rattle.deneva_base.specs.Keys.{key_eq, attempt_eq, attempt_lt, number_lt}
 use Rattle.deneva_base.specs.Modes.{reads}
 use Rattle.deneva_base.specs.Rows.{Row, Rows}
-use Rattle.deneva_base.specs.History.{History, Grant, Yea, Decided, grants, yeas, decided, IsUnended}
-use Rattle.deneva_base.specs.Latest.{Version, writes_in, has_ended}
-use Rattle.deneva_base.specs.Ranged.{lists, wrote, past_committed}
-use Rattle.deneva_base.specs.Maat.{maat}
-use Rattle.deneva_base.specs.Rules.{Obeys}
+use Rattle.protocol_rules.specs.History.{History, Grant, Yea, Decided, grants, yeas, decided, IsUnended}
+use Rattle.protocol_rules.specs.Latest.{Version, writes_in, has_ended}
+use Rattle.protocol_rules.specs.Ranged.{lists, wrote, past_committed}
+use Rattle.protocol_rules.specs.Maat.{maat}
+use Rattle.protocol_rules.specs.Rules.{Obeys}
 use Rattle.row_store.specs.declared.versions.Version.{Version as StoredVersion}
 use Rattle.row_store.specs.Stores.{version_at}
 use Rattle.control_core.specs.Leaving.{last}

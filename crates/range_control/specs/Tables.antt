@@ -5,7 +5,7 @@ use Rattle.deneva_base.specs.declared.keys.Key.{Key}
 use Rattle.deneva_base.specs.declared.numbers.Attempt.{Attempt}
 use Rattle.deneva_base.specs.declared.causes.Bound.{Bound}
 use Rattle.deneva_base.specs.declared.rows.Keyed.{Keyed}
-use Rattle.deneva_base.specs.Ranged.{lists}
+use Rattle.protocol_rules.specs.Ranged.{lists}
 use Rattle.range_control.specs.declared.ends.Upper.{Upper}
 use Rattle.range_control.specs.declared.accesses.Line.{Line}
 use Rattle.range_control.specs.declared.lines.Lines.{Lines}

@@ -1,7 +1,7 @@
 //! The unended accesses to each key.
 ghost use Rattle.std.specs.Prelude.{◌≡◌, ◌<◌, ◌^◌, None, IfSome, OnOk, OnErr};
 ghost use Rattle.deneva_base.specs.declared.keys.Key.{Key};
-ghost use Rattle.deneva_base.specs.Ranged.{lists};
+ghost use Rattle.protocol_rules.specs.Ranged.{lists};
 ghost use Rattle.range_control.specs.Ends.{first_by, upper_before, lower_before};
 ghost use Rattle.range_control.specs.Accesses.{no_accesses, past_over, prepared, ended_in, with_access};
 ghost use Rattle.range_control.specs.Tables.{accesses_at, low_at, lower_at, upper_at, prepared_at, changed, SetsAccesses, SameAccesses};

@@ -1,10 +1,10 @@
 //! MAAT as a control.
 ghost use Rattle.std.specs.Prelude.{true, refl};
-ghost use Rattle.deneva_base.specs.Maat.{maat};
+ghost use Rattle.protocol_rules.specs.Maat.{maat};
 ghost use Rattle.deneva_base.specs.declared.config.Protocol.TheVariants.{Maat};
-ghost use Rattle.deneva_base.proofs.Maats.{ranging};
-ghost use Rattle.deneva_base.proofs.MaatServed.{waits};
-ghost use Rattle.deneva_base.proofs.Rangeds.{windows_law};
+ghost use Rattle.protocol_rules.proofs.Maats.{ranging};
+ghost use Rattle.protocol_rules.proofs.MaatServed.{waits};
+ghost use Rattle.protocol_rules.proofs.Rangeds.{windows_law};
 ghost use Rattle.range_control.specs.Standing.{Stands};
 
 use crate::table::Table;

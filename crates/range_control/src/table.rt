@@ -2,7 +2,7 @@
 ghost use Rattle.std.specs.Prelude.{◌≡◌, ◌≤◌, ◌<◌, ◌^◌, ◌+◌, true, None, Some, IfOk, IfErr, IfSome, OnOk, OnErr, length};
 ghost use Rattle.deneva_base.specs.Keys.{attempt_lt};
 ghost use Rattle.deneva_base.specs.Lists.{IsIn};
-ghost use Rattle.deneva_base.specs.Ranged.{window_vote};
+ghost use Rattle.protocol_rules.specs.Ranged.{window_vote};
 ghost use Rattle.deneva_base.specs.declared.keys.Key.{Key};
 ghost use Rattle.deneva_base.specs.declared.rows.Keyed.{Keyed};
 ghost use Rattle.deneva_base.specs.declared.answers.Answer.TheVariants.{Granted};

@@ -1,7 +1,7 @@
 -- The rows of an outcome.
 use Rattle.std.proofs.Common.{◌≡◌, true, List, [], map, Option, Some, None, refl, sym, ap, ◌∙◌, subst}
 use Rattle.std.specs.List.{flat_map}
-use Rattle.deneva_base.specs.Protocols.{Chosen, chosen}
+use Rattle.protocol_rules.specs.Protocols.{Chosen, chosen}
 use Rattle.deneva_base.specs.Rising.{keys_rise}
 use Rattle.deneva_base.specs.Rows.{row_of, row_or_empty, put_all, in_key_order}
 use Rattle.deneva_base.specs.declared.config.Config.{Config}

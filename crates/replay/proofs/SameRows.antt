@@ -15,8 +15,8 @@ use Rattle.deneva_base.proofs.Entries.{key_cmp_same}
 use Rattle.deneva_base.proofs.KeyOrder.{less, key_cmp_total, key_eq-below}
 use Rattle.deneva_base.proofs.PutRows.{row_of-member, row_of-none}
 use Rattle.deneva_base.proofs.RowMaps.{below_all, keys_rise-tail}
-use Rattle.deneva_base.proofs.Sorts.{key_trans}
-use Rattle.deneva_base.proofs.Words.{key_tells}
+use Rattle.deneva_base.proofs.KeyOrder.{key_trans}
+use Rattle.deneva_base.proofs.Membership.{key_tells}
 
 -- other rows at the same keys are in order too
 rises_after-with : (f : Keyed → Row) (key : Key) (rows : List Keyed) → rise_after key rows ≡ true → rise_after key (map (λ r. record { key = r.key; row = f r }) rows) ≡ true

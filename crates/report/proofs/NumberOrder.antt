@@ -9,7 +9,7 @@ use Rattle.deneva_base.specs.Keys.{id_eq, NumberLt, number_lt}
 use Rattle.deneva_base.specs.Lists.{IsIn}
 use Rattle.deneva_base.specs.declared.numbers.Number.{Number}
 use Rattle.deneva_base.specs.declared.numbers.TxnId.{TxnId}
-use Rattle.deneva_base.proofs.Words.{number_decides}
+use Rattle.deneva_base.proofs.Membership.{number_decides}
 use Rattle.server_core.specs.IsSerial.{Rises}
 use Rattle.server_core.specs.Outcome.{put_line, sort_lines}
 use Rattle.server_core.specs.declared.outcomes.Decided.{Decided}

@@ -1,9 +1,9 @@
 -- What a plain node says on a message, and what it stands for then.
 use Rattle.std.proofs.Common.{◌≡◌, ◌++◌, ◌∷◌, ℕ, List, false, sym, ap, ◌∙◌, subst}
 use Rattle.coord.specs.Standing.{is_call, role_of}
-use Rattle.deneva_base.specs.History.{History}
+use Rattle.protocol_rules.specs.History.{History}
 use Rattle.deneva_base.specs.Rows.{Rows}
-use Rattle.deneva_base.specs.Rules.{Rule}
+use Rattle.protocol_rules.specs.Rules.{Rule}
 use Rattle.node_core.specs.Places.{role_at}
 use Rattle.node_core.specs.Standing.{NodeStands}
 use Rattle.node_core.proofs.Handling.{step_says}

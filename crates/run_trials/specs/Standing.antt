@@ -1,8 +1,8 @@
 -- What a plain node stands for.
 use Rattle.std.specs.Prelude.{◌≡◌, List}
-use Rattle.deneva_base.specs.History.{History}
+use Rattle.protocol_rules.specs.History.{History}
 use Rattle.deneva_base.specs.Rows.{Rows}
-use Rattle.deneva_base.specs.Rules.{Rule}
+use Rattle.protocol_rules.specs.Rules.{Rule}
 use Rattle.node_core.specs.Places.{role_at}
 use Rattle.node_core.specs.Standing.{NodeStands}
 use Rattle.server_core.specs.Roles.{Role}

@@ -10,8 +10,8 @@ use Rattle.deneva_base.specs.declared.keys.Mode.{Mode}
 use Rattle.deneva_base.specs.Lists.{IsIn}
 use Rattle.deneva_base.specs.Keys.{attempt_eq, key_eq}
 use Rattle.deneva_base.specs.declared.causes.Cause.{Cause}
-use Rattle.deneva_base.specs.History.{IsUnended, closed, Grant, Yea, grants, yeas, waits}
-use Rattle.deneva_base.proofs.Words.{attempt_tells, key_tells, in_cases, any_found, attempt_decides, key_decides}
+use Rattle.protocol_rules.specs.History.{IsUnended, closed, Grant, Yea, grants, yeas, waits}
+use Rattle.deneva_base.proofs.Membership.{attempt_tells, key_tells, in_cases, any_found, attempt_decides, key_decides}
 use Rattle.server_core.specs.declared.messages.Msg.{Msg}
 use Rattle.server_core.specs.declared.messages.Msg.TheVariants.{Start, Ask, Granted, Refused, Yes, No, Commit, Abort, Done, Undone}
 use Rattle.server_core.specs.declared.messages.Mail.{Mail}

@@ -6,7 +6,7 @@ use Rattle.std.proofs.lemmas.List.{append-nil}
 use Rattle.deneva_base.specs.declared.numbers.TxnId.{TxnId}
 use Rattle.deneva_base.specs.Lists.{IsIn}
 use Rattle.deneva_base.specs.Keys.{key_eq, id_eq}
-use Rattle.deneva_base.proofs.Words.{key_tells, in_filter, any_at, any_found, and_parts, and_true, filter_in}
+use Rattle.deneva_base.proofs.Membership.{key_tells, in_filter, any_at, any_found, and_parts, and_true, filter_in}
 use Rattle.deneva_base.specs.Partitions.{partition_of}
 use Rattle.deneva_base.specs.declared.rows.Keyed.{Keyed}
 use Rattle.server_core.specs.declared.messages.Msg.{Msg}

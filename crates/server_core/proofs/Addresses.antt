@@ -9,7 +9,7 @@ use Rattle.deneva_base.specs.declared.answers.Wake.{Wake}
 use Rattle.deneva_base.specs.declared.keys.Access.{Access}
 use Rattle.deneva_base.specs.declared.numbers.Attempt.{Attempt}
 use Rattle.deneva_base.specs.declared.numbers.TxnId.{TxnId}
-use Rattle.deneva_base.proofs.Words.{in_left, in_right, in_cases, in_map_from}
+use Rattle.deneva_base.proofs.Membership.{in_left, in_right, in_cases, in_map_from}
 use Rattle.txn_program.specs.Transactions.{numbers_below}
 use Rattle.server_core.specs.declared.messages.Msg.{Msg}
 use Rattle.server_core.specs.declared.messages.Msg.TheVariants.{Start, Ask, Granted, Refused, Prepare, Yes, No, Commit, Abort, Done, Undone, Tick, Batch, Rows}

@@ -6,7 +6,7 @@ use Rattle.deneva_base.specs.declared.numbers.TxnId.{TxnId}
 use Rattle.deneva_base.specs.declared.numbers.Attempt.{Attempt}
 use Rattle.deneva_base.specs.Lists.{IsIn}
 use Rattle.deneva_base.specs.Keys.{attempt_eq}
-use Rattle.deneva_base.proofs.Words.{any_at, any_found, attempt_tells, attempt_decides}
+use Rattle.deneva_base.proofs.Membership.{any_at, any_found, attempt_tells, attempt_decides}
 use Rattle.server_core.specs.declared.messages.Msg.{Msg}
 use Rattle.server_core.specs.declared.messages.Msg.TheVariants.{Start, Ask}
 use Rattle.server_core.specs.declared.messages.Mail.{Mail}

@@ -11,7 +11,7 @@ use Rattle.txn_program.specs.Serial.{all_ids, serial as serial_run}
 use Rattle.txn_program.specs.Valid.{IsValid}
 use Rattle.txn_program.specs.declared.programs.Workload.{Workload}
 use Rattle.txn_program.proofs.WorkloadLaws.{distinct_loaded}
-use Rattle.deneva_base.proofs.Words.{in_map_from}
+use Rattle.deneva_base.proofs.Membership.{in_map_from}
 use Rattle.server_core.specs.Atomic.{IsFinishedAt, IsAtomic}
 use Rattle.server_core.specs.Calvin.{says, opening}
 use Rattle.server_core.specs.CalvinProper.{Valid}

@@ -8,12 +8,12 @@ use Rattle.deneva_base.specs.Rows.{Rows}
 use Rattle.deneva_base.specs.Keys.{attempt_eq, key_eq}
 use Rattle.deneva_base.specs.declared.answers.Answer.TheVariants.{Granted as Gives, Waits, Refused as Refuses}
 use Rattle.deneva_base.specs.declared.answers.Wake.{Wake}
-use Rattle.deneva_base.specs.History.{Ask as Asked', Prepare as Prepared, Commit as Committed, Abort as Aborted, History, Asked, Grant, asks, grants, waits, wakes_this, is_woken}
-use Rattle.deneva_base.specs.Wakes.{Once, WakesWaiters, KeepsWakes}
-use Rattle.deneva_base.specs.Rules.{Rule, Obeys}
-use Rattle.deneva_base.proofs.Words.{filter_in, any_at, any_found, and_true, and_parts, attempt_decides, key_decides, attempt_tells, key_tells}
-use Rattle.deneva_base.proofs.Known.{Known, known}
-use Rattle.deneva_base.proofs.Traced.{Traced, traced}
+use Rattle.protocol_rules.specs.History.{Ask as Asked', Prepare as Prepared, Commit as Committed, Abort as Aborted, History, Asked, Grant, asks, grants, waits, wakes_this, is_woken}
+use Rattle.protocol_rules.specs.Wakes.{Once, WakesWaiters, KeepsWakes}
+use Rattle.protocol_rules.specs.Rules.{Rule, Obeys}
+use Rattle.deneva_base.proofs.Membership.{filter_in, any_at, any_found, and_true, and_parts, attempt_decides, key_decides, attempt_tells, key_tells}
+use Rattle.protocol_rules.proofs.Known.{Known, known}
+use Rattle.protocol_rules.proofs.Traced.{Traced, traced}
 use Rattle.server_core.specs.declared.messages.Msg.{Msg}
 use Rattle.server_core.specs.declared.messages.Msg.TheVariants.{Start, Ask, Prepare, Commit, Abort}
 use Rattle.server_core.specs.Setting.{Setting, loaded_at, rule_at}

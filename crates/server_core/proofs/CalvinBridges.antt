@@ -1,7 +1,7 @@
 -- Under Calvin, what is said of a configuration and a workload is what is said of their setting.
 use Rattle.std.proofs.Common.{◌≡◌, ℕ, List, [], Option, None, refl, sym, subst}
 use Rattle.deneva_base.specs.Lists.{IsIn}
-use Rattle.deneva_base.specs.Protocols.{Chosen, chosen}
+use Rattle.protocol_rules.specs.Protocols.{Chosen, chosen}
 use Rattle.deneva_base.specs.declared.config.Config.{Config}
 use Rattle.deneva_base.specs.declared.config.Protocol.{Protocol}
 use Rattle.deneva_base.specs.declared.config.Protocol.TheVariants.{Calvin}

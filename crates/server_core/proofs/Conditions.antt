@@ -18,9 +18,9 @@ use Rattle.deneva_base.specs.declared.causes.Bound.{Bound}
 use Rattle.deneva_base.specs.declared.rows.Keyed.{Keyed}
 use Rattle.deneva_base.specs.declared.answers.Answer.{Answer}
 use Rattle.deneva_base.specs.declared.answers.Answer.TheVariants.{Granted as Gives, Waits, Refused as Refuses}
-use Rattle.deneva_base.specs.History.{Asked, Grant, asks, grants, waits, refused, refusal, aborted}
-use Rattle.deneva_base.specs.Conditions.{Distinct, MayAsk}
-use Rattle.deneva_base.proofs.Words.{in_left, in_right, in_filter, filter_in, any_found, attempt_decides, key_decides, attempt_tells, key_tells}
+use Rattle.protocol_rules.specs.History.{Asked, Grant, asks, grants, waits, refused, refusal, aborted}
+use Rattle.protocol_rules.specs.Conditions.{Distinct, MayAsk}
+use Rattle.deneva_base.proofs.Membership.{in_left, in_right, in_filter, filter_in, any_found, attempt_decides, key_decides, attempt_tells, key_tells}
 use Rattle.server_core.specs.declared.messages.Msg.{Msg}
 use Rattle.server_core.specs.declared.messages.Msg.TheVariants.{Start, Ask, Granted, Refused, Prepare, Commit, Abort, Done, Undone}
 use Rattle.server_core.specs.declared.messages.Mail.{Mail}

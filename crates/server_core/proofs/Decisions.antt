@@ -11,7 +11,7 @@ use Rattle.deneva_base.specs.Keys.{attempt_eq}
 use Rattle.deneva_base.specs.declared.causes.Cause.{Cause}
 use Rattle.deneva_base.specs.declared.answers.Vote.{Vote}
 use Rattle.deneva_base.specs.declared.answers.Vote.TheVariants.{Yes as VotesYes, No as VotesNo}
-use Rattle.deneva_base.proofs.Words.{attempt_tells, in_cases}
+use Rattle.deneva_base.proofs.Membership.{attempt_tells, in_cases}
 use Rattle.server_core.specs.declared.messages.Msg.{Msg}
 use Rattle.server_core.specs.declared.messages.Msg.TheVariants.{Start, Ask, Granted, Refused, Yes, No, Commit, Abort, Done, Undone}
 use Rattle.server_core.specs.declared.messages.Mail.{Mail}

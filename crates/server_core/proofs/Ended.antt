@@ -11,7 +11,7 @@ use Rattle.server_core.specs.Limits.{Limits}
 use Rattle.server_core.specs.Runs.{heard}
 use Rattle.server_core.specs.VotingRuns.{IsRun}
 use Rattle.server_core.proofs.SerialWords.{IsDecidedIn, IsGivenUpIn}
-use Rattle.deneva_base.specs.Waits.{WaitsLaw}
+use Rattle.protocol_rules.specs.Waits.{WaitsLaw}
 use Rattle.server_core.proofs.Called.{ask_heard}
 use Rattle.server_core.proofs.Numbers.{run_good, run_under, run_top}
 use Rattle.server_core.proofs.Quits.{none_waits, all_over}

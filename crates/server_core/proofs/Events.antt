@@ -8,7 +8,7 @@ use Rattle.deneva_base.specs.declared.numbers.Attempt.{Attempt}
 use Rattle.deneva_base.specs.declared.keys.Mode.{Mode}
 use Rattle.deneva_base.specs.Lists.{IsIn}
 use Rattle.deneva_base.specs.Keys.{attempt_eq, key_eq}
-use Rattle.deneva_base.proofs.Words.{in_left, in_right, in_cases, in_map, in_map_from, filter_in, attempt_tells, key_tells, attempt_decides}
+use Rattle.deneva_base.proofs.Membership.{in_left, in_right, in_cases, in_map, in_map_from, filter_in, attempt_tells, key_tells, attempt_decides}
 use Rattle.server_core.specs.declared.messages.Msg.{Msg}
 use Rattle.server_core.specs.declared.messages.Msg.TheVariants.{Start, Ask, Granted, Refused, Prepare, Yes, No, Commit, Abort, Done, Undone, Tick, Batch, Rows, Finished}
 use Rattle.server_core.specs.declared.messages.Mail.{Mail}
@@ -21,7 +21,7 @@ use Rattle.server_core.specs.Coordinator.{told, asked_parts}
 use Rattle.server_core.specs.VotingFits.{Suits, AllFit}
 use Rattle.server_core.specs.Proper.{Valid}
 use Rattle.server_core.specs.Limits.{is_of, count_entries, most_of, sum_of, most_events, Limits}
-use Rattle.deneva_base.specs.Growth.{Grows}
+use Rattle.protocol_rules.specs.Growth.{Grows}
 use Rattle.server_core.specs.Runs.{heard}
 use Rattle.server_core.proofs.Local.{count_msgs}
 use Rattle.server_core.proofs.Quiet.{is_ask, is_answer, is_prepare, is_vote, is_end, is_close}

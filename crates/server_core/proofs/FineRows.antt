@@ -6,7 +6,7 @@ use Rattle.deneva_base.specs.Lists.{IsIn}
 use Rattle.deneva_base.specs.Rows.{Row, Rows as Table, put_row, put_rows, row_or_empty}
 use Rattle.deneva_base.specs.Keys.{key_eq}
 use Rattle.deneva_base.specs.declared.rows.Keyed.{Keyed}
-use Rattle.deneva_base.proofs.Words.{key_tells, filter_in, in_map_from}
+use Rattle.deneva_base.proofs.Membership.{key_tells, filter_in, in_map_from}
 use Rattle.deneva_base.specs.declared.keys.Access.{Access}
 use Rattle.server_core.specs.Setting.{Setting}
 use Rattle.deneva_base.specs.Modes.{reads}

@@ -9,9 +9,9 @@ use Rattle.deneva_base.specs.Lists.{IsIn}
 use Rattle.deneva_base.specs.Keys.{attempt_eq, key_eq}
 use Rattle.deneva_base.specs.declared.answers.Vote.{Vote}
 use Rattle.deneva_base.specs.declared.answers.Vote.TheVariants.{Yes as VotesYes, No as VotesNo}
-use Rattle.deneva_base.specs.Rules.{Rule}
-use Rattle.deneva_base.specs.History.{ended, closed}
-use Rattle.deneva_base.proofs.Words.{attempt_tells}
+use Rattle.protocol_rules.specs.Rules.{Rule}
+use Rattle.protocol_rules.specs.History.{ended, closed}
+use Rattle.deneva_base.proofs.Membership.{attempt_tells}
 use Rattle.server_core.specs.declared.messages.Msg.{Msg}
 use Rattle.server_core.specs.declared.messages.Msg.TheVariants.{Start, Ask, Granted, Refused, Prepare, Yes, No, Commit, Abort}
 use Rattle.server_core.specs.Setting.{Setting, take_first, participants}

@@ -13,8 +13,8 @@ use Rattle.deneva_base.specs.declared.causes.Bound.{Bound}
 use Rattle.deneva_base.specs.declared.rows.Keyed.{Keyed}
 use Rattle.deneva_base.specs.declared.answers.Vote.{Vote}
 use Rattle.deneva_base.specs.declared.answers.Vote.TheVariants.{Yes as VotesYes, No as VotesNo}
-use Rattle.deneva_base.specs.History.{Yea, Decided, yeas, yea, decided}
-use Rattle.deneva_base.proofs.Words.{in_cases, filter_in, attempt_tells}
+use Rattle.protocol_rules.specs.History.{Yea, Decided, yeas, yea, decided}
+use Rattle.deneva_base.proofs.Membership.{in_cases, filter_in, attempt_tells}
 use Rattle.server_core.specs.declared.messages.Msg.{Msg}
 use Rattle.server_core.specs.declared.messages.Msg.TheVariants.{Start, Ask, Granted, Prepare, Commit}
 use Rattle.server_core.specs.declared.messages.Mail.{Mail}

@@ -5,7 +5,7 @@ use Rattle.deneva_base.specs.declared.numbers.TxnId.{TxnId}
 use Rattle.deneva_base.specs.declared.numbers.Attempt.{Attempt}
 use Rattle.deneva_base.specs.Lists.{IsIn}
 use Rattle.deneva_base.specs.Keys.{attempt_eq}
-use Rattle.deneva_base.proofs.Words.{in_map, filter_in, in_filter, and_parts, and_true, attempt_tells}
+use Rattle.deneva_base.proofs.Membership.{in_map, filter_in, in_filter, and_parts, and_true, attempt_tells}
 use Rattle.server_core.specs.declared.messages.Msg.{Msg}
 use Rattle.server_core.specs.declared.messages.Msg.TheVariants.{Start}
 use Rattle.server_core.specs.declared.messages.Mail.{Mail}

@@ -11,7 +11,7 @@ use Rattle.deneva_base.specs.Lists.{IsIn}
 use Rattle.deneva_base.specs.Keys.{attempt_eq}
 use Rattle.deneva_base.specs.Modes.{reads, IsReading}
 use Rattle.deneva_base.specs.declared.rows.Keyed.{Keyed}
-use Rattle.deneva_base.proofs.Words.{in_left, in_right, in_cases, any_found, and_parts, and_true, attempt_tells, reading_decides}
+use Rattle.deneva_base.proofs.Membership.{in_left, in_right, in_cases, any_found, and_parts, and_true, attempt_tells, reading_decides}
 use Rattle.server_core.specs.declared.messages.Msg.{Msg}
 use Rattle.server_core.specs.declared.messages.Msg.TheVariants.{Start, Ask, Granted, Commit, Abort, Done, Undone}
 use Rattle.server_core.specs.declared.messages.Mail.{Mail}

@@ -6,7 +6,7 @@ use Rattle.deneva_base.specs.Lists.{IsIn}
 use Rattle.deneva_base.specs.Keys.{attempt_eq}
 use Rattle.deneva_base.specs.declared.causes.Cause.{Cause}
 use Rattle.deneva_base.specs.declared.answers.Vote.TheVariants.{No as VotesNo}
-use Rattle.deneva_base.proofs.Words.{in_left, in_right, any_found, and_true, attempt_tells, key_tells}
+use Rattle.deneva_base.proofs.Membership.{in_left, in_right, any_found, and_true, attempt_tells, key_tells}
 use Rattle.server_core.specs.declared.messages.Msg.{Msg}
 use Rattle.server_core.specs.declared.messages.Msg.TheVariants.{Ask, Refused, Prepare, Yes, No, Commit, Abort}
 use Rattle.server_core.specs.declared.messages.Mail.{Mail}

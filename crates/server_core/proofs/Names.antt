@@ -18,7 +18,7 @@ use Rattle.deneva_base.specs.declared.answers.Vote.TheVariants.{Yes as VotesYes,
 use Rattle.deneva_base.specs.declared.answers.Wake.{Wake}
 use Rattle.deneva_base.specs.declared.causes.Bound.{Bound}
 use Rattle.deneva_base.specs.declared.rows.Keyed.{Keyed}
-use Rattle.deneva_base.proofs.Words.{in_right, in_cases, and_parts, attempt_tells, key_tells, key_decides}
+use Rattle.deneva_base.proofs.Membership.{in_right, in_cases, and_parts, attempt_tells, key_tells, key_decides}
 use Rattle.server_core.specs.declared.messages.Msg.{Msg}
 use Rattle.server_core.specs.declared.messages.Msg.TheVariants.{Start, Ask, Granted, Refused, Prepare, Yes, No, Commit, Abort, Done, Undone}
 use Rattle.server_core.specs.declared.messages.Mail.{Mail}
@@ -35,7 +35,7 @@ use Rattle.server_core.specs.Counts.{all_said, count_msgs}
 use Rattle.server_core.specs.declared.outcomes.AbortLine.{AbortLine}
 use Rattle.server_core.specs.Aborts.{Refusal, is_ask_of, is_prepare_of, is_vote_of, newest, line_at, refusal_for, lesser, least_part, part_or, apart_of, vote_abort, abort_lines, turns, aborts_of}
 use Rattle.server_core.specs.Ends.{attempt, at_home}
-use Rattle.deneva_base.specs.Naming.{NamesKey, NamesRange, Naming}
+use Rattle.protocol_rules.specs.Naming.{NamesKey, NamesRange, Naming}
 use Rattle.server_core.specs.VotingNamed.{ByAsk, ByPrepare, NamedBy, IsNamed}
 use Rattle.server_core.proofs.Quiet.{is_ask, is_prepare}
 use Rattle.server_core.proofs.Lines.{in_flat}

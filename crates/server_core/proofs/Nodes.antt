@@ -8,10 +8,10 @@ use Rattle.deneva_base.specs.Lists.{IsIn}
 use Rattle.deneva_base.specs.Rows.{Row}
 use Rattle.deneva_base.specs.Keys.{NumberLt, number_lt}
 use Rattle.deneva_base.specs.declared.rows.Keyed.{Keyed}
-use Rattle.deneva_base.specs.History.{Yea, Decided, yeas, decided as decided_in}
-use Rattle.deneva_base.specs.Latest.{Version, row_for}
-use Rattle.deneva_base.proofs.Words.{in_left, in_right, in_cases, in_filter, filter_in, attempt_tells, number_decides}
-use Rattle.deneva_base.proofs.Sound.{row_found, Sound, sound}
+use Rattle.protocol_rules.specs.History.{Yea, Decided, yeas, decided as decided_in}
+use Rattle.protocol_rules.specs.Latest.{Version, row_for}
+use Rattle.deneva_base.proofs.Membership.{in_left, in_right, in_cases, in_filter, filter_in, attempt_tells, number_decides}
+use Rattle.protocol_rules.proofs.Sound.{row_found, Sound, sound}
 use Rattle.server_core.specs.declared.messages.Entry.{Entry}
 use Rattle.server_core.specs.Setting.{Setting, loaded_at, rule_at, participants}
 use Rattle.deneva_base.specs.Partitions.{partition_of}
@@ -23,7 +23,7 @@ use Rattle.server_core.specs.Proper.{Valid}
 use Rattle.server_core.specs.Runs.{heard}
 use Rattle.server_core.specs.declared.outcomes.Decided.{Decided as Line}
 use Rattle.server_core.specs.Outcome.{lines, replies, greatest, rows_of}
-use Rattle.deneva_base.specs.Leaving.{later, row_or, left_in, greatest_at}
+use Rattle.protocol_rules.specs.Leaving.{later, row_or, left_in, greatest_at}
 use Rattle.server_core.specs.NodeRows.{node_rows}
 use Rattle.server_core.proofs.SerialWords.{txn_of, Wrote}
 use Rattle.server_core.proofs.Called.{obeys}

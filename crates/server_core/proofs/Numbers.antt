@@ -14,8 +14,8 @@ use Rattle.deneva_base.specs.declared.answers.Vote.{Vote}
 use Rattle.deneva_base.specs.declared.answers.Vote.TheVariants.{Yes as VotesYes, No as VotesNo}
 use Rattle.deneva_base.specs.declared.answers.Wake.{Wake}
 use Rattle.deneva_base.specs.declared.causes.Bound.{Bound}
-use Rattle.deneva_base.specs.History.{Ask as Asked, Prepare as Prepared, Commit as Committed, Abort as Aborted, History}
-use Rattle.deneva_base.proofs.Words.{in_left, in_right, in_cases, attempt_tells}
+use Rattle.protocol_rules.specs.History.{Ask as Asked, Prepare as Prepared, Commit as Committed, Abort as Aborted, History}
+use Rattle.deneva_base.proofs.Membership.{in_left, in_right, in_cases, attempt_tells}
 use Rattle.server_core.specs.declared.messages.Msg.{Msg}
 use Rattle.server_core.specs.declared.messages.Msg.TheVariants.{Start, Ask, Granted, Refused, Prepare, Yes, No, Commit, Abort, Done, Undone, Finished}
 use Rattle.server_core.specs.declared.messages.Mail.{Mail}
@@ -32,7 +32,7 @@ use Rattle.server_core.specs.Voting.{says}
 use Rattle.server_core.specs.VotingFits.{Suits, AllFit}
 use Rattle.server_core.specs.Small.{SmallMsg, SmallCause}
 use Rattle.server_core.specs.Proper.{Valid}
-use Rattle.deneva_base.specs.Growth.{CauseUnder, AnswerUnder, VoteUnder, WakesUnder, HistoryUnder, Grows}
+use Rattle.protocol_rules.specs.Growth.{CauseUnder, AnswerUnder, VoteUnder, WakesUnder, HistoryUnder, Grows}
 use Rattle.server_core.specs.Limits.{MsgUnder, Limits, most_events}
 use Rattle.server_core.specs.Runs.{heard}
 use Rattle.server_core.specs.VotingRuns.{IsRun, Small}

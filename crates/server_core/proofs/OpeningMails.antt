@@ -8,8 +8,8 @@ use Rattle.deneva_base.specs.Partitions.{partition_of}
 use Rattle.deneva_base.specs.declared.config.Config.{Config}
 use Rattle.deneva_base.specs.declared.keys.Access.{Access}
 use Rattle.deneva_base.specs.declared.numbers.TxnId.{TxnId}
-use Rattle.deneva_base.proofs.Timestamps.{top_by}
-use Rattle.deneva_base.proofs.Words.{in_filter}
+use Rattle.protocol_rules.proofs.Timestamps.{top_by}
+use Rattle.deneva_base.proofs.Membership.{in_filter}
 use Rattle.txn_program.specs.Serial.{all_ids, ids_from, program_of}
 use Rattle.txn_program.specs.Transactions.{accesses, first_key, home_of, numbers_below}
 use Rattle.txn_program.specs.Valid.{IsValid, is_valid_program}

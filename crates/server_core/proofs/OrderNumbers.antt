@@ -8,7 +8,7 @@ use Rattle.std.proofs.lemmas.List.{append-nil}
 use Rattle.deneva_base.specs.declared.numbers.TxnId.{TxnId}
 use Rattle.deneva_base.specs.Lists.{IsIn}
 use Rattle.deneva_base.specs.Keys.{NumberLt, id_eq}
-use Rattle.deneva_base.proofs.Words.{in_left, in_right, in_cases, in_map_from}
+use Rattle.deneva_base.proofs.Membership.{in_left, in_right, in_cases, in_map_from}
 use Rattle.txn_program.specs.Transactions.{numbers_below}
 use Rattle.server_core.specs.Setting.{take_first, Setting, home, homes, drop_first}
 use Rattle.server_core.specs.GlobalOrder.{Slot, slots, slots_of, eight, epochs, batch, order, before, index_of, numbered, number, number_at}

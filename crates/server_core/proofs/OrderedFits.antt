@@ -5,7 +5,7 @@ use Rattle.std.proofs.lemmas.Bool.Decides.{nat_tests, eqb_tells}
 use Rattle.deneva_base.specs.declared.numbers.TxnId.{TxnId}
 use Rattle.deneva_base.specs.Lists.{IsIn}
 use Rattle.deneva_base.specs.declared.rows.Keyed.{Keyed}
-use Rattle.deneva_base.proofs.Words.{in_cases, in_right, in_map_from, and_true}
+use Rattle.deneva_base.proofs.Membership.{in_cases, in_right, in_map_from, and_true}
 use Rattle.server_core.specs.declared.messages.Msg.{Msg}
 use Rattle.server_core.specs.declared.messages.Msg.TheVariants.{Tick, Batch, Rows, Finished}
 use Rattle.server_core.specs.declared.messages.Mail.{Mail}

@@ -6,7 +6,7 @@ use Rattle.deneva_base.specs.declared.numbers.TxnId.{TxnId}
 use Rattle.deneva_base.specs.declared.numbers.Number.{Number}
 use Rattle.deneva_base.specs.Lists.{IsIn}
 use Rattle.deneva_base.specs.declared.rows.Keyed.{Keyed}
-use Rattle.deneva_base.proofs.Words.{in_right}
+use Rattle.deneva_base.proofs.Membership.{in_right}
 use Rattle.server_core.specs.declared.messages.Msg.{Msg}
 use Rattle.server_core.specs.declared.messages.Msg.TheVariants.{Tick, Batch, Rows, Finished}
 use Rattle.server_core.specs.declared.messages.Mail.{Mail}

@@ -4,7 +4,7 @@ use Rattle.std.specs.List.{list_all, flat_map}
 use Rattle.std.proofs.lemmas.Bool.Decides.{nat_tests, eqb_tells}
 use Rattle.deneva_base.specs.declared.numbers.TxnId.{TxnId}
 use Rattle.deneva_base.specs.Lists.{IsIn}
-use Rattle.deneva_base.proofs.Words.{in_left, in_right, in_cases, and_parts, and_true}
+use Rattle.deneva_base.proofs.Membership.{in_left, in_right, in_cases, and_parts, and_true}
 use Rattle.txn_program.specs.Transactions.{numbers_below}
 use Rattle.server_core.specs.Setting.{take_first, drop_first}
 use Rattle.deneva_base.specs.Keys.{id_eq}

@@ -5,7 +5,7 @@ use Rattle.std.proofs.lemmas.Bool.Decides.{eqb_tells}
 use Rattle.deneva_base.specs.declared.numbers.TxnId.{TxnId}
 use Rattle.deneva_base.specs.Lists.{IsIn}
 use Rattle.deneva_base.specs.declared.rows.Keyed.{Keyed}
-use Rattle.deneva_base.proofs.Words.{in_left, in_right, in_cases, any_at, in_filter, and_parts, and_true, filter_in}
+use Rattle.deneva_base.proofs.Membership.{in_left, in_right, in_cases, any_at, in_filter, and_parts, and_true, filter_in}
 use Rattle.server_core.specs.declared.messages.Msg.{Msg}
 use Rattle.server_core.specs.declared.messages.Msg.TheVariants.{Tick, Batch, Rows}
 use Rattle.txn_program.specs.Transactions.{numbers_below}

@@ -1,9 +1,9 @@
 -- The lines of the serial execution in the global order rise, replay, and leave its rows.
 use Rattle.std.proofs.Common.{◌≡◌, List, [], ◌∷◌, length, map, Bool, true, false, cond, refl, sym, ap, ap₂, ◌∙◌, subst, subst₂, inl, inr, ⊎_elim}
 use Rattle.std.proofs.lemmas.List.{length-map}
-use Rattle.deneva_base.specs.Conditions.{Distinct}
+use Rattle.protocol_rules.specs.Conditions.{Distinct}
 use Rattle.deneva_base.specs.Keys.{NumberLt}
-use Rattle.deneva_base.specs.Leaving.{row_or}
+use Rattle.protocol_rules.specs.Leaving.{row_or}
 use Rattle.deneva_base.specs.Lists.{IsIn}
 use Rattle.deneva_base.specs.Modes.{reads}
 use Rattle.deneva_base.specs.Rows.{Row, Rows, row_or_empty, put_rows}
@@ -11,7 +11,7 @@ use Rattle.deneva_base.specs.declared.keys.Access.{Access}
 use Rattle.deneva_base.specs.declared.keys.Key.{Key}
 use Rattle.deneva_base.specs.declared.numbers.TxnId.{TxnId}
 use Rattle.deneva_base.specs.declared.rows.Keyed.{Keyed}
-use Rattle.deneva_base.proofs.Words.{in_cases, in_map, in_map_from}
+use Rattle.deneva_base.proofs.Membership.{in_cases, in_map, in_map_from}
 use Rattle.txn_program.specs.Transactions.{reading}
 use Rattle.txn_program.specs.declared.serial.SerialTxn.{SerialTxn}
 use Rattle.server_core.specs.CalvinProper.{Valid}

@@ -4,7 +4,7 @@ use Rattle.std.specs.List.{list_all}
 use Rattle.deneva_base.specs.declared.numbers.TxnId.{TxnId}
 use Rattle.deneva_base.specs.Lists.{IsIn}
 use Rattle.deneva_base.specs.declared.rows.Keyed.{Keyed}
-use Rattle.deneva_base.proofs.Words.{in_cases, and_parts, and_true, in_map_from, filter_in}
+use Rattle.deneva_base.proofs.Membership.{in_cases, and_parts, and_true, in_map_from, filter_in}
 use Rattle.server_core.specs.declared.messages.Msg.{Msg}
 use Rattle.server_core.specs.declared.messages.Msg.TheVariants.{Tick, Batch, Rows, Finished}
 use Rattle.server_core.specs.declared.messages.Mail.{Mail}

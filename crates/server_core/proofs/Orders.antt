@@ -7,7 +7,7 @@ use Rattle.std.proofs.lemmas.List.{append-nil}
 use Rattle.std.proofs.lemmas.Bool.Decides.{eqb_tells}
 use Rattle.deneva_base.specs.declared.numbers.TxnId.{TxnId}
 use Rattle.deneva_base.specs.Lists.{IsIn, greatest_by}
-use Rattle.deneva_base.proofs.Words.{in_filter, filter_in, in_map, in_map_from}
+use Rattle.deneva_base.proofs.Membership.{in_filter, filter_in, in_map, in_map_from}
 use Rattle.txn_program.specs.Transactions.{numbers_below}
 use Rattle.server_core.specs.Setting.{take_first, Setting, home, home_in, homes, drop_first}
 use Rattle.server_core.proofs.Prepares.{occurs}

@@ -12,8 +12,8 @@ use Rattle.deneva_base.specs.declared.answers.Answer.TheVariants.{Granted as Giv
 use Rattle.deneva_base.specs.declared.answers.Vote.{Vote}
 use Rattle.deneva_base.specs.declared.answers.Vote.TheVariants.{Yes as VotesYes, No as VotesNo}
 use Rattle.deneva_base.specs.declared.answers.Wake.{Wake}
-use Rattle.deneva_base.specs.Wakes.{WakesWaiters}
-use Rattle.deneva_base.proofs.Words.{in_left, in_right, in_cases, attempt_tells}
+use Rattle.protocol_rules.specs.Wakes.{WakesWaiters}
+use Rattle.deneva_base.proofs.Membership.{in_left, in_right, in_cases, attempt_tells}
 use Rattle.server_core.specs.declared.messages.Msg.{Msg}
 use Rattle.server_core.specs.declared.messages.Msg.TheVariants.{Start, Ask, Granted, Refused, Prepare, Yes, No, Commit, Abort, Done, Undone}
 use Rattle.server_core.specs.declared.messages.Mail.{Mail}

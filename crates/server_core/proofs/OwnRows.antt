@@ -1,9 +1,9 @@
 -- A node of a voting protocol has no row of another partition's key.
 use Rattle.std.proofs.Common.{◌≡◌, ◌≢◌, ◌⊎◌, ℕ, List, [], ◌∷◌, cond, eqb, refl, sym, ap, ap₂, subst, ⊎_elim, Option, Some, None}
 use Rattle.std.proofs.lemmas.Bool.Decides.{eqb_tells}
-use Rattle.deneva_base.specs.History.{Yea, Decided, yeas, decided}
-use Rattle.deneva_base.specs.Latest.{row_for}
-use Rattle.deneva_base.specs.Leaving.{later, row_or, left_in, greatest_at}
+use Rattle.protocol_rules.specs.History.{Yea, Decided, yeas, decided}
+use Rattle.protocol_rules.specs.Latest.{row_for}
+use Rattle.protocol_rules.specs.Leaving.{later, row_or, left_in, greatest_at}
 use Rattle.deneva_base.specs.Lists.{IsIn}
 use Rattle.deneva_base.specs.Partitions.{partition_of}
 use Rattle.deneva_base.specs.Rows.{Row}
@@ -11,8 +11,8 @@ use Rattle.deneva_base.specs.declared.causes.Bound.{Bound}
 use Rattle.deneva_base.specs.declared.keys.Key.{Key}
 use Rattle.deneva_base.specs.declared.numbers.Attempt.{Attempt}
 use Rattle.deneva_base.specs.declared.rows.Keyed.{Keyed}
-use Rattle.deneva_base.proofs.Sound.{row_found}
-use Rattle.deneva_base.proofs.Words.{in_cases}
+use Rattle.protocol_rules.proofs.Sound.{row_found}
+use Rattle.deneva_base.proofs.Membership.{in_cases}
 use Rattle.server_core.specs.NodeRows.{node_rows, ordered_rows}
 use Rattle.server_core.specs.Ordered.{now}
 use Rattle.server_core.specs.Participant.{calls}

@@ -15,7 +15,7 @@ use Rattle.deneva_base.specs.declared.answers.Answer.{Answer}
 use Rattle.deneva_base.specs.declared.answers.Answer.TheVariants.{Granted as Gives, Waits, Refused as Refuses}
 use Rattle.deneva_base.specs.declared.answers.Vote.{Vote}
 use Rattle.deneva_base.specs.declared.answers.Vote.TheVariants.{Yes as VotesYes, No as VotesNo}
-use Rattle.deneva_base.proofs.Words.{attempt_tells}
+use Rattle.deneva_base.proofs.Membership.{attempt_tells}
 use Rattle.server_core.specs.declared.messages.Msg.{Msg}
 use Rattle.server_core.specs.declared.messages.Msg.TheVariants.{Start, Ask, Granted, Refused, Prepare, Yes, No, Commit, Abort, Done, Undone}
 use Rattle.server_core.specs.declared.messages.Mail.{Mail}

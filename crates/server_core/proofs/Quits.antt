@@ -9,9 +9,9 @@ use Rattle.deneva_base.specs.declared.numbers.Number.{Number}
 use Rattle.deneva_base.specs.Lists.{IsIn}
 use Rattle.deneva_base.specs.Keys.{attempt_eq}
 use Rattle.deneva_base.specs.declared.causes.Cause.{Cause}
-use Rattle.deneva_base.specs.History.{History, Asked, Grant, asks, grants, waits, ended, aborted, IsUnended, Conflict}
-use Rattle.deneva_base.proofs.Words.{in_left, in_right, in_cases, in_map, filter_in, in_filter, and_parts, and_true, attempt_tells, attempt_decides, key_tells}
-use Rattle.deneva_base.proofs.Sound.{sound}
+use Rattle.protocol_rules.specs.History.{History, Asked, Grant, asks, grants, waits, ended, aborted, IsUnended, Conflict}
+use Rattle.deneva_base.proofs.Membership.{in_left, in_right, in_cases, in_map, filter_in, in_filter, and_parts, and_true, attempt_tells, attempt_decides, key_tells}
+use Rattle.protocol_rules.proofs.Sound.{sound}
 use Rattle.server_core.specs.declared.messages.Msg.{Msg}
 use Rattle.server_core.specs.declared.messages.Msg.TheVariants.{Start, Ask, Granted, Commit, Abort, Done, Undone}
 use Rattle.server_core.specs.declared.messages.Mail.{Mail}
@@ -34,7 +34,7 @@ use Rattle.server_core.specs.declared.outcomes.Giveup.{Giveup}
 use Rattle.server_core.specs.Ends.{attempt, dones_for, undones_for, all_done, all_undone, done_turn}
 use Rattle.server_core.specs.Outcome.{sort_lines, giveups_of, line_of, line_if, lines}
 use Rattle.server_core.proofs.SerialWords.{IsDecidedIn, IsGivenUpIn}
-use Rattle.deneva_base.specs.Waits.{WaitsLaw, Nothing, ForYounger, ForWriter}
+use Rattle.protocol_rules.specs.Waits.{WaitsLaw, Nothing, ForYounger, ForWriter}
 use Rattle.server_core.proofs.Conserved.{handled}
 use Rattle.server_core.proofs.Quiet.{is_ask, is_answer, is_end}
 use Rattle.server_core.proofs.Prepares.{occurs, slice_some}

@@ -12,9 +12,9 @@ use Rattle.deneva_base.specs.declared.answers.Answer.TheVariants.{Granted as Giv
 use Rattle.deneva_base.specs.declared.answers.Vote.{Vote}
 use Rattle.deneva_base.specs.declared.answers.Vote.TheVariants.{Yes as VotesYes, No as VotesNo}
 use Rattle.deneva_base.specs.declared.answers.Wake.{Wake}
-use Rattle.deneva_base.specs.History.{Asked, waits, left_waiting, is_woken}
-use Rattle.deneva_base.specs.Wakes.{WakesWaiters}
-use Rattle.deneva_base.proofs.Words.{attempt_tells}
+use Rattle.protocol_rules.specs.History.{Asked, waits, left_waiting, is_woken}
+use Rattle.protocol_rules.specs.Wakes.{WakesWaiters}
+use Rattle.deneva_base.proofs.Membership.{attempt_tells}
 use Rattle.server_core.specs.declared.messages.Msg.{Msg}
 use Rattle.server_core.specs.declared.messages.Msg.TheVariants.{Start, Ask, Granted, Prepare, Commit, Abort}
 use Rattle.server_core.specs.Setting.{Setting, home, loaded_at, rule_at}

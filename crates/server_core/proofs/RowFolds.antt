@@ -7,8 +7,8 @@ use Rattle.deneva_base.specs.Lists.{IsIn}
 use Rattle.deneva_base.specs.Keys.{key_eq}
 use Rattle.deneva_base.specs.declared.rows.Keyed.{Keyed}
 use Rattle.deneva_base.specs.Rows.{Rows, put_row, put_rows}
-use Rattle.deneva_base.proofs.Words.{key_tells}
-use Rattle.deneva_base.proofs.Words.{in_cases}
+use Rattle.deneva_base.proofs.Membership.{key_tells}
+use Rattle.deneva_base.proofs.Membership.{in_cases}
 use Rattle.deneva_base.specs.Partitions.{partition_of}
 use Rattle.server_core.specs.Coordinator.{at_part}
 use Rattle.txn_program.specs.declared.effects.Effect.{Effect}

@@ -11,7 +11,7 @@ use Rattle.deneva_base.specs.declared.keys.Key.{Key}
 use Rattle.deneva_base.specs.declared.numbers.TxnId.{TxnId}
 use Rattle.deneva_base.specs.declared.rows.Keyed.{Keyed}
 use Rattle.deneva_base.proofs.PutRows.{keys_rise-put_all, put_all-append, in_key_order-rising, row_of-put, row_of-member, row_of-none, row_at-row_of}
-use Rattle.deneva_base.proofs.Words.{key_tells}
+use Rattle.deneva_base.proofs.Membership.{key_tells}
 use Rattle.txn_program.specs.Apart.{DistinctBy}
 use Rattle.txn_program.specs.Serial.{reads_from, reads_of, effect_on, settled, map_after, turn, turns, last_map, serial}
 use Rattle.txn_program.specs.Transactions.{reading}

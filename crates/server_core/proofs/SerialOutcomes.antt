@@ -13,9 +13,9 @@ use Rattle.deneva_base.specs.Rows.{Row, Rows, row_or_empty, put_rows}
 use Rattle.deneva_base.specs.Keys.{NumberLt, number_lt}
 use Rattle.deneva_base.specs.Modes.{reads}
 use Rattle.deneva_base.specs.declared.rows.Keyed.{Keyed}
-use Rattle.deneva_base.specs.Latest.{Version, row_for}
-use Rattle.deneva_base.proofs.Words.{in_map, in_map_from, and_parts, number_decides, attempt_tells}
-use Rattle.deneva_base.proofs.Sound.{row_found, row_some}
+use Rattle.protocol_rules.specs.Latest.{Version, row_for}
+use Rattle.deneva_base.proofs.Membership.{in_map, in_map_from, and_parts, number_decides, attempt_tells}
+use Rattle.protocol_rules.proofs.Sound.{row_found, row_some}
 use Rattle.server_core.specs.declared.messages.Msg.{Msg}
 use Rattle.server_core.specs.declared.messages.Msg.TheVariants.{Ask, Commit, Undone}
 use Rattle.server_core.specs.declared.messages.Mail.{Mail}
@@ -33,7 +33,7 @@ use Rattle.server_core.specs.declared.outcomes.Decided.{Decided as Line}
 use Rattle.server_core.specs.declared.outcomes.Giveup.{Giveup}
 use Rattle.server_core.specs.Ends.{attempt, at_home, undones_for, all_done, all_undone, done_turn}
 use Rattle.server_core.specs.Outcome.{replies, line_of, line_if, lines, put_line, sort_lines, greatest, rows_of, left_by, giveups_of}
-use Rattle.deneva_base.specs.Leaving.{later, row_or}
+use Rattle.protocol_rules.specs.Leaving.{later, row_or}
 use Rattle.server_core.specs.IsSerial.{ran, Rises}
 use Rattle.server_core.proofs.SerialWords.{read_from, run_one, leave, serial, rows_after, IsDecidedIn, IsGivenUpIn, Txn, after, Replays, Rising, Wrote, Agrees, IsLast, txn_of}
 use Rattle.server_core.specs.Effects.{leaves}

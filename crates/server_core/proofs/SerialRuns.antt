@@ -9,10 +9,10 @@ use Rattle.deneva_base.specs.Lists.{IsIn}
 use Rattle.deneva_base.specs.Rows.{Row}
 use Rattle.deneva_base.specs.Modes.{IsReading}
 use Rattle.deneva_base.specs.declared.rows.Keyed.{Keyed}
-use Rattle.deneva_base.specs.History.{History, Grant, Yea, grants, yeas, decided as decided_in, Writes}
-use Rattle.deneva_base.specs.Windows.{HasWindow, IsVersion, KeepsWindows}
-use Rattle.deneva_base.specs.Conditions.{Distinct}
-use Rattle.deneva_base.proofs.Words.{in_left, in_cases, in_filter, filter_in, in_map, in_map_from, and_true}
+use Rattle.protocol_rules.specs.History.{History, Grant, Yea, grants, yeas, decided as decided_in, Writes}
+use Rattle.protocol_rules.specs.Windows.{HasWindow, IsVersion, KeepsWindows}
+use Rattle.protocol_rules.specs.Conditions.{Distinct}
+use Rattle.deneva_base.proofs.Membership.{in_left, in_cases, in_filter, filter_in, in_map, in_map_from, and_true}
 use Rattle.server_core.specs.declared.messages.Msg.{Msg}
 use Rattle.server_core.specs.declared.messages.Msg.TheVariants.{Granted, Prepare, Commit, Done}
 use Rattle.server_core.specs.declared.messages.Entry.{Entry}

@@ -8,8 +8,8 @@ use Rattle.deneva_base.specs.Lists.{IsIn}
 use Rattle.deneva_base.specs.Rows.{Rows as Table, put_rows, row_or_empty, row_at}
 use Rattle.deneva_base.specs.Keys.{key_eq}
 use Rattle.deneva_base.specs.declared.rows.Keyed.{Keyed}
-use Rattle.deneva_base.proofs.Words.{key_tells, and_true, filter_in}
-use Rattle.deneva_base.proofs.Words.{in_left, in_right, in_filter, any_at}
+use Rattle.deneva_base.proofs.Membership.{key_tells, and_true, filter_in}
+use Rattle.deneva_base.proofs.Membership.{in_left, in_right, in_filter, any_at}
 use Rattle.server_core.specs.declared.messages.Msg.{Msg}
 use Rattle.server_core.specs.declared.messages.Msg.TheVariants.{Rows}
 use Rattle.deneva_base.specs.Partitions.{partition_of}

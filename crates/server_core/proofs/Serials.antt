@@ -7,7 +7,7 @@ use Rattle.deneva_base.specs.Rows.{Row, Rows, put_row, put_rows}
 use Rattle.deneva_base.specs.Keys.{NumberLt}
 use Rattle.deneva_base.specs.declared.rows.Keyed.{Keyed}
 use Rattle.server_core.proofs.SerialWords.{Txn, after, Replays, Rising, Wrote, Found, Agrees, IsLast}
-use Rattle.deneva_base.proofs.Words.{in_left, in_right, in_cases, key_tells}
+use Rattle.deneva_base.proofs.Membership.{in_left, in_right, in_cases, key_tells}
 
 keyed_at : (w : Keyed) (k : Key) → w.key ≡ k → record { key = k; row = w.row } ≡ w
 keyed_at w k e = λ i. record { key = sym e i; row = w.row }

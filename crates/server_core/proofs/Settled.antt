@@ -9,7 +9,7 @@ use Rattle.deneva_base.specs.Lists.{IsIn}
 use Rattle.deneva_base.specs.Keys.{key_eq, id_eq}
 use Rattle.deneva_base.specs.declared.rows.Keyed.{Keyed}
 use Rattle.deneva_base.specs.Rows.{Rows as Table, row_or_empty}
-use Rattle.deneva_base.proofs.Words.{key_tells, in_right, in_cases, any_found, and_parts, and_true}
+use Rattle.deneva_base.proofs.Membership.{key_tells, in_right, in_cases, any_found, and_parts, and_true}
 use Rattle.server_core.specs.declared.messages.Msg.{Msg}
 use Rattle.server_core.specs.declared.messages.Msg.TheVariants.{Tick, Finished}
 use Rattle.server_core.specs.declared.messages.Entry.{Entry}

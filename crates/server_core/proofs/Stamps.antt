@@ -8,7 +8,7 @@ use Rattle.deneva_base.specs.Lists.{IsIn}
 use Rattle.deneva_base.specs.Keys.{attempt_eq, key_eq}
 use Rattle.deneva_base.specs.declared.causes.Cause.{Cause}
 use Rattle.deneva_base.specs.declared.causes.Cause.TheVariants.{Held, Younger, Written, ReadLater, EmptyRange, Apart, Trimmed}
-use Rattle.deneva_base.proofs.Words.{in_cases, attempt_tells, key_tells}
+use Rattle.deneva_base.proofs.Membership.{in_cases, attempt_tells, key_tells}
 use Rattle.server_core.specs.declared.messages.Msg.{Msg}
 use Rattle.server_core.specs.declared.messages.Msg.TheVariants.{Start, Ask, Granted, Refused}
 use Rattle.server_core.specs.declared.messages.Mail.{Mail}

@@ -8,7 +8,7 @@ use Rattle.deneva_base.specs.Lists.{IsIn}
 use Rattle.deneva_base.specs.Rows.{Row, Rows as Table, put_row, put_rows, row_at}
 use Rattle.deneva_base.specs.Keys.{NumberLt, key_eq, id_eq}
 use Rattle.deneva_base.specs.declared.rows.Keyed.{Keyed}
-use Rattle.deneva_base.proofs.Words.{key_tells, in_right, any_at, any_found, filter_in}
+use Rattle.deneva_base.proofs.Membership.{key_tells, in_right, any_at, any_found, filter_in}
 use Rattle.server_core.specs.declared.messages.Msg.{Msg}
 use Rattle.server_core.specs.declared.messages.Msg.TheVariants.{Rows}
 use Rattle.deneva_base.specs.Partitions.{partition_of}

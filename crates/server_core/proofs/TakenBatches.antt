@@ -4,7 +4,7 @@ use Rattle.std.specs.List.{flat_map}
 use Rattle.std.proofs.lemmas.Grind.{flat_map-append}
 use Rattle.deneva_base.specs.declared.numbers.TxnId.{TxnId}
 use Rattle.deneva_base.specs.Lists.{IsIn}
-use Rattle.deneva_base.proofs.Words.{and_parts, and_true}
+use Rattle.deneva_base.proofs.Membership.{and_parts, and_true}
 use Rattle.server_core.specs.declared.messages.Msg.{Msg}
 use Rattle.server_core.specs.Setting.{Setting}
 use Rattle.server_core.specs.Ordered.{takes_part, clash, has_batch, as_far, taken, is_finished, unblocked, is_ready}

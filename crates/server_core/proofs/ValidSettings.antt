@@ -1,15 +1,15 @@
 -- Every configuration within its ranges and every valid workload meet what runs ask of a setting.
-use Rattle.deneva_base.specs.Lawful.{Lawful}
-use Rattle.deneva_base.specs.Naming.{Naming}
-use Rattle.deneva_base.specs.Protocols.{chosen, kept_versions, window_span}
-use Rattle.deneva_base.specs.Waits.{WaitsLaw}
+use Rattle.protocol_rules.specs.Lawful.{Lawful}
+use Rattle.protocol_rules.specs.Naming.{Naming}
+use Rattle.protocol_rules.specs.Protocols.{chosen, kept_versions, window_span}
+use Rattle.protocol_rules.specs.Waits.{WaitsLaw}
 use Rattle.deneva_base.specs.declared.config.Config.{Config}
 use Rattle.deneva_base.specs.declared.config.Protocol.{Protocol}
 use Rattle.deneva_base.specs.declared.config.Protocol.TheVariants.{NoWait, WaitDie, Timestamp, Mvcc, Maat, Calvin}
-use Rattle.deneva_base.proofs.NoWaitServed as no_wait
-use Rattle.deneva_base.proofs.WaitDieServed as wait_die
-use Rattle.deneva_base.proofs.StampsServed as stamps
-use Rattle.deneva_base.proofs.MaatServed as maat
+use Rattle.protocol_rules.proofs.NoWaitServed as no_wait
+use Rattle.protocol_rules.proofs.WaitDieServed as wait_die
+use Rattle.protocol_rules.proofs.StampsServed as stamps
+use Rattle.protocol_rules.proofs.MaatServed as maat
 use Rattle.txn_program.specs.Valid.{IsValid}
 use Rattle.txn_program.specs.declared.programs.Workload.{Workload}
 use Rattle.txn_program.proofs.WorkloadLaws as law

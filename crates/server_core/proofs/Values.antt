@@ -14,8 +14,8 @@ use Rattle.deneva_base.specs.declared.answers.Answer.TheVariants.{Granted as Giv
 use Rattle.deneva_base.specs.declared.answers.Vote.{Vote}
 use Rattle.deneva_base.specs.declared.answers.Vote.TheVariants.{Yes as VotesYes, No as VotesNo}
 use Rattle.deneva_base.specs.declared.answers.Wake.{Wake}
-use Rattle.deneva_base.specs.History.{History, Grant, Yea, grants, granted, grant_of_wake, yeas, yea}
-use Rattle.deneva_base.proofs.Words.{attempt_tells, key_tells, in_left, in_right, in_cases, in_map, in_map_from}
+use Rattle.protocol_rules.specs.History.{History, Grant, Yea, grants, granted, grant_of_wake, yeas, yea}
+use Rattle.deneva_base.proofs.Membership.{attempt_tells, key_tells, in_left, in_right, in_cases, in_map, in_map_from}
 use Rattle.server_core.specs.declared.messages.Msg.{Msg}
 use Rattle.server_core.specs.declared.messages.Msg.TheVariants.{Start, Ask, Granted, Refused, Prepare, Yes, No, Commit, Abort, Done, Undone}
 use Rattle.server_core.specs.declared.messages.Mail.{Mail}

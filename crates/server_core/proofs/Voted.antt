@@ -8,11 +8,11 @@ use Rattle.server_core.proofs.Events.{run_short}
 use Rattle.std.proofs.Common.{ℕ, ◌≤◌, length, map, refl, ◌≡◌, ◌⊎◌, List, [], Some, sym, ap, ◌∙◌, subst}
 use Rattle.std.proofs.lemmas.Bool.{and_parts}
 use Rattle.deneva_base.specs.Lists.{IsIn}
-use Rattle.deneva_base.specs.Naming.{Naming}
+use Rattle.protocol_rules.specs.Naming.{Naming}
 use Rattle.deneva_base.specs.Partitions.{partition_of}
-use Rattle.deneva_base.specs.Protocols.{Chosen, chosen}
+use Rattle.protocol_rules.specs.Protocols.{Chosen, chosen}
 use Rattle.deneva_base.specs.Rows.{row_of, in_key_order}
-use Rattle.deneva_base.specs.Waits.{WaitsLaw}
+use Rattle.protocol_rules.specs.Waits.{WaitsLaw}
 use Rattle.deneva_base.specs.declared.config.Config.{Config}
 use Rattle.deneva_base.specs.declared.keys.Key.{Key}
 use Rattle.deneva_base.specs.declared.numbers.TxnId.{TxnId}

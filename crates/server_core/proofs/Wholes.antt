@@ -5,7 +5,7 @@ use Rattle.deneva_base.specs.declared.numbers.TxnId.{TxnId}
 use Rattle.deneva_base.specs.declared.numbers.Attempt.{Attempt}
 use Rattle.deneva_base.specs.declared.numbers.Number.{Number}
 use Rattle.deneva_base.specs.Lists.{IsIn}
-use Rattle.deneva_base.proofs.Words.{any_tells, attempt_decides}
+use Rattle.deneva_base.proofs.Membership.{any_tells, attempt_decides}
 use Rattle.server_core.specs.declared.messages.Msg.{Msg}
 use Rattle.server_core.specs.declared.messages.Msg.TheVariants.{Start, Commit}
 use Rattle.server_core.specs.declared.messages.Entry.{Entry}

@@ -2,7 +2,7 @@
 use Rattle.std.specs.Prelude.{◌≡◌, ◌⊎◌, ℕ, List, Bool, false, Option, Some, None}
 use Rattle.deneva_base.specs.Keys.{id_eq}
 use Rattle.deneva_base.specs.Lists.{IsIn}
-use Rattle.deneva_base.specs.Protocols.{Chosen, chosen}
+use Rattle.protocol_rules.specs.Protocols.{Chosen, chosen}
 use Rattle.deneva_base.specs.declared.config.Config.{Config}
 use Rattle.deneva_base.specs.declared.numbers.TxnId.{TxnId}
 use Rattle.txn_program.specs.declared.programs.Workload.{Workload}

@@ -7,7 +7,7 @@ use Rattle.server_core.specs.declared.messages.Msg.{Msg}
 use Rattle.server_core.specs.declared.messages.Msg.TheVariants.{Start, Ask, Granted, Refused, Prepare, Yes, No, Commit, Abort, Done, Undone, Finished}
 use Rattle.server_core.specs.declared.messages.Entry.{Entry}
 use Rattle.server_core.specs.Setting.{Setting, parts_of}
-use Rattle.deneva_base.specs.Growth.{CauseUnder, Grows}
+use Rattle.protocol_rules.specs.Growth.{CauseUnder, Grows}
 
 -- the messages of an attempt
 abbrev pub is_of : Attempt → Msg → Bool

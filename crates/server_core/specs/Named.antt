@@ -1,7 +1,7 @@
 -- Each abort that an outcome lists names what was found in the history of that partition at that step.
 use Rattle.std.specs.Prelude.{List, Option, Some, None}
 use Rattle.deneva_base.specs.Lists.{IsIn}
-use Rattle.deneva_base.specs.Protocols.{Chosen, chosen}
+use Rattle.protocol_rules.specs.Protocols.{Chosen, chosen}
 use Rattle.deneva_base.specs.declared.config.Config.{Config}
 use Rattle.txn_program.specs.declared.programs.Workload.{Workload}
 use Rattle.server_core.specs.Outcome.{outcome}

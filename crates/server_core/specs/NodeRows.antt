@@ -1,8 +1,8 @@
 -- The rows of a node.
 use Rattle.std.specs.Prelude.{ℕ, List, cond, eqb, Option, Some, None}
-use Rattle.deneva_base.specs.Leaving.{rows_left}
+use Rattle.protocol_rules.specs.Leaving.{rows_left}
 use Rattle.deneva_base.specs.Partitions.{partition_of}
-use Rattle.deneva_base.specs.Protocols.{Chosen, chosen}
+use Rattle.protocol_rules.specs.Protocols.{Chosen, chosen}
 use Rattle.deneva_base.specs.Rows.{Rows}
 use Rattle.deneva_base.specs.declared.config.Config.{Config}
 use Rattle.txn_program.specs.declared.programs.Workload.{Workload}

@@ -3,9 +3,9 @@ use Rattle.std.specs.Prelude.{ℕ, List, [], ◌∷◌, map, reverse, filter, Bo
 use Rattle.std.specs.List.{flat_map, list_all}
 use Rattle.deneva_base.specs.Keys.{attempt_eq, number_lt}
 use Rattle.deneva_base.specs.Lists.{insert, sort}
-use Rattle.deneva_base.specs.Leaving.{later, row_or}
-use Rattle.deneva_base.specs.Latest.{Version, row_for}
-use Rattle.deneva_base.specs.Protocols.{Chosen, chosen}
+use Rattle.protocol_rules.specs.Leaving.{later, row_or}
+use Rattle.protocol_rules.specs.Latest.{Version, row_for}
+use Rattle.protocol_rules.specs.Protocols.{Chosen, chosen}
 use Rattle.deneva_base.specs.Rows.{Rows, row_or_empty, put_all, in_key_order}
 use Rattle.deneva_base.specs.declared.config.Config.{Config}
 use Rattle.deneva_base.specs.declared.keys.Key.{Key}

@@ -8,7 +8,7 @@ use Rattle.deneva_base.specs.Rows.{Row}
 use Rattle.deneva_base.specs.Keys.{key_eq}
 use Rattle.deneva_base.specs.Modes.{IsReading, IsWriting}
 use Rattle.deneva_base.specs.declared.rows.Keyed.{Keyed}
-use Rattle.deneva_base.specs.Conditions.{Distinct}
+use Rattle.protocol_rules.specs.Conditions.{Distinct}
 use Rattle.server_core.specs.declared.messages.Msg.{Msg}
 use Rattle.server_core.specs.declared.messages.Msg.TheVariants.{Start, Ask, Granted, Refused, Prepare, Yes, No, Commit, Abort, Done, Undone, Tick, Batch, Rows, Finished}
 use Rattle.server_core.specs.declared.messages.Mail.{Mail}
@@ -18,7 +18,7 @@ use Rattle.server_core.specs.Replies.{Reply}
 use Rattle.deneva_base.specs.Partitions.{partition_of}
 use Rattle.server_core.specs.Effects.{written, appended}
 use Rattle.server_core.specs.Coordinator.{effect_of}
-use Rattle.deneva_base.specs.Lawful.{Lawful}
+use Rattle.protocol_rules.specs.Lawful.{Lawful}
 
 abbrev pub ProperMsg : Setting → ℕ → ℕ → Msg → Type 0
 ProperMsg s p to (Start who) = (to ≡ p) × (p ≡ home s who.txn) × (1 ≤ who.turn) × IsIn who.txn s.ids

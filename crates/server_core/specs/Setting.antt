@@ -9,9 +9,9 @@ use Rattle.deneva_base.specs.declared.numbers.Attempt.{Attempt}
 use Rattle.deneva_base.specs.declared.numbers.TxnId.{TxnId}
 use Rattle.deneva_base.specs.declared.rows.Keyed.{Keyed}
 use Rattle.deneva_base.specs.Partitions.{partition_of}
-use Rattle.deneva_base.specs.Protocols.{Chosen, chosen}
+use Rattle.protocol_rules.specs.Protocols.{Chosen, chosen}
 use Rattle.deneva_base.specs.Rows.{Row, Rows, row_of}
-use Rattle.deneva_base.specs.Rules.{Rule}
+use Rattle.protocol_rules.specs.Rules.{Rule}
 use Rattle.txn_program.specs.Serial.{program_of, all_ids}
 use Rattle.txn_program.specs.Transactions.{accesses, effect}
 pub use Rattle.txn_program.specs.Transactions.{parts_of}

@@ -1,11 +1,11 @@
 //! Laws of every run of a voting protocol, under any rule that is lawful and whose numbers grow slowly.
 ghost use Rattle.std.specs.Prelude.{◌≡◌, ◌≢◌, ◌⊎◌, ◌≤◌, ℕ, List, [], ◌∷◌, ◌++◌, length, Some};
 ghost use Rattle.deneva_base.specs.Lists.{IsIn};
-ghost use Rattle.deneva_base.specs.Naming.{Naming};
+ghost use Rattle.protocol_rules.specs.Naming.{Naming};
 ghost use Rattle.deneva_base.specs.Partitions.{partition_of};
-ghost use Rattle.deneva_base.specs.Protocols.{Chosen, chosen};
+ghost use Rattle.protocol_rules.specs.Protocols.{Chosen, chosen};
 ghost use Rattle.deneva_base.specs.Rows.{row_of};
-ghost use Rattle.deneva_base.specs.Waits.{WaitsLaw};
+ghost use Rattle.protocol_rules.specs.Waits.{WaitsLaw};
 ghost use Rattle.deneva_base.specs.declared.config.Config.{Config};
 ghost use Rattle.deneva_base.specs.declared.keys.Key.{Key};
 ghost use Rattle.deneva_base.specs.declared.keys.Mode.{Mode};

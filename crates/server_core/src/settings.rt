@@ -1,6 +1,6 @@
 //! Laws of settings: each function does nothing, and its contract is the laws.
-ghost use Rattle.deneva_base.specs.Naming.{Naming};
-ghost use Rattle.deneva_base.specs.Waits.{WaitsLaw};
+ghost use Rattle.protocol_rules.specs.Naming.{Naming};
+ghost use Rattle.protocol_rules.specs.Waits.{WaitsLaw};
 ghost use Rattle.deneva_base.specs.declared.config.Config.{Config};
 ghost use Rattle.txn_program.specs.Valid.{IsValid};
 ghost use Rattle.txn_program.specs.declared.programs.Workload.{Workload};

@@ -8,21 +8,21 @@ use Rattle.deneva_base.specs.declared.numbers.Attempt.{Attempt}
 use Rattle.deneva_base.specs.declared.numbers.Number.{Number}
 use Rattle.deneva_base.specs.declared.causes.Cause.{Cause}
 use Rattle.deneva_base.specs.declared.answers.Answer.TheVariants.{Granted, Waits, Refused}
-use Rattle.deneva_base.specs.Conditions.{MayAsk}
-use Rattle.deneva_base.specs.History.{Ask, History, Asked}
+use Rattle.protocol_rules.specs.Conditions.{MayAsk}
+use Rattle.protocol_rules.specs.History.{Ask, History, Asked}
 use Rattle.deneva_base.specs.Keys.{key_eq, number_eq, number_lt}
-use Rattle.deneva_base.specs.Latest.{Version, latest}
+use Rattle.protocol_rules.specs.Latest.{Version, latest}
 use Rattle.deneva_base.specs.Lists.{IsIn}
 use Rattle.deneva_base.specs.Modes.{reads, writes}
 use Rattle.deneva_base.specs.Rows.{Row, Rows}
-use Rattle.deneva_base.specs.Timestamp.{top_written, top_read}
-use Rattle.deneva_base.specs.Versions.{written, start, greatest, below}
-use Rattle.deneva_base.proofs.Belows.{Listed, below_under, greatest_in, greatest_over}
-use Rattle.deneva_base.proofs.Known.{Known}
-use Rattle.deneva_base.proofs.Marks.{Marked}
-use Rattle.deneva_base.proofs.Sound.{Sound}
-use Rattle.deneva_base.proofs.Traced.{Traced}
-use Rattle.deneva_base.proofs.Words.{and_parts, and_true, in_cases, in_filter}
+use Rattle.protocol_rules.specs.Timestamp.{top_written, top_read}
+use Rattle.protocol_rules.specs.Versions.{written, start, greatest, below}
+use Rattle.protocol_rules.proofs.Belows.{Listed, below_under, greatest_in, greatest_over}
+use Rattle.protocol_rules.proofs.Known.{Known}
+use Rattle.protocol_rules.proofs.Marks.{Marked}
+use Rattle.protocol_rules.proofs.Sound.{Sound}
+use Rattle.protocol_rules.proofs.Traced.{Traced}
+use Rattle.deneva_base.proofs.Membership.{and_parts, and_true, in_cases, in_filter}
 use Rattle.row_store.specs.declared.versions.Version.{Version as StoredVersion}
 use Rattle.row_store.specs.Stores.{version_at}
 use Rattle.row_store.proofs.Tables.{same_key-key_eq}

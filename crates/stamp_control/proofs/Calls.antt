@@ -16,29 +16,29 @@ use Rattle.deneva_base.specs.declared.answers.Answer.{Answer}
 use Rattle.deneva_base.specs.declared.answers.Answer.TheVariants.{Granted, Waits, Refused}
 use Rattle.deneva_base.specs.declared.answers.Vote.TheVariants.{Yes}
 use Rattle.deneva_base.specs.declared.answers.Wake.{Wake}
-use Rattle.deneva_base.specs.Conditions.{MayAsk, MayPrepare, MayCommit, MayAbort, Distinct}
-use Rattle.deneva_base.specs.History.{Ask, Commit, Abort, History, Asked, waits, yeas, is_woken, IsUnended}
+use Rattle.protocol_rules.specs.Conditions.{MayAsk, MayPrepare, MayCommit, MayAbort, Distinct}
+use Rattle.protocol_rules.specs.History.{Ask, Commit, Abort, History, Asked, waits, yeas, is_woken, IsUnended}
 use Rattle.deneva_base.specs.Keys.{loaded_version}
-use Rattle.deneva_base.specs.Latest.{Version, latest, row_for, seen, writes_in}
-use Rattle.deneva_base.specs.Leaving.{rows_left}
+use Rattle.protocol_rules.specs.Latest.{Version, latest, row_for, seen, writes_in}
+use Rattle.protocol_rules.specs.Leaving.{rows_left}
 use Rattle.deneva_base.specs.Lists.{IsIn, sort}
 use Rattle.deneva_base.specs.Modes.{reads, writes, IsReading}
-use Rattle.deneva_base.specs.Order.{by_rising_stamp}
+use Rattle.protocol_rules.specs.Order.{by_rising_stamp}
 use Rattle.deneva_base.specs.Rows.{Row, Rows}
-use Rattle.deneva_base.specs.Timestamp.{timestamp, top_written, top_read}
-use Rattle.deneva_base.specs.Versions.{version_of as written_as, written, start, greatest, below}
-use Rattle.deneva_base.specs.Waiting.{this, holders, holds, older_writer, granted_with, wake_of, goes, wakes}
-use Rattle.deneva_base.specs.Wakes.{KeepsWakes}
-use Rattle.deneva_base.proofs.Belows.{Listed, listed}
-use Rattle.deneva_base.proofs.Known.{Known, known, known_more}
-use Rattle.deneva_base.proofs.Marks.{Marked, marked}
-use Rattle.deneva_base.proofs.Sorts.{Distinct as DistinctAccesses, sort_in}
-use Rattle.deneva_base.proofs.Sound.{Sound, sound, writes_found}
-use Rattle.deneva_base.proofs.Stamping.{wakes_law, windows_law, waits_law, commit_keys, abort_keys}
-use Rattle.deneva_base.proofs.Timestamps.{stamping}
-use Rattle.deneva_base.proofs.Traced.{Traced, traced}
-use Rattle.deneva_base.proofs.Wakes.{distinct_waits}
-use Rattle.deneva_base.proofs.Words.{filter_in, writing_decides, reading_decides}
+use Rattle.protocol_rules.specs.Timestamp.{timestamp, top_written, top_read}
+use Rattle.protocol_rules.specs.Versions.{version_of as written_as, written, start, greatest, below}
+use Rattle.protocol_rules.specs.Waiting.{this, holders, holds, older_writer, granted_with, wake_of, goes, wakes}
+use Rattle.protocol_rules.specs.Wakes.{KeepsWakes}
+use Rattle.protocol_rules.proofs.Belows.{Listed, listed}
+use Rattle.protocol_rules.proofs.Known.{Known, known, known_more}
+use Rattle.protocol_rules.proofs.Marks.{Marked, marked}
+use Rattle.protocol_rules.proofs.Sorts.{Distinct as DistinctAccesses, sort_in}
+use Rattle.protocol_rules.proofs.Sound.{Sound, sound, writes_found}
+use Rattle.protocol_rules.proofs.Stamping.{wakes_law, windows_law, waits_law, commit_keys, abort_keys}
+use Rattle.protocol_rules.proofs.Timestamps.{stamping}
+use Rattle.protocol_rules.proofs.Traced.{Traced, traced}
+use Rattle.protocol_rules.proofs.Wakes.{distinct_waits}
+use Rattle.deneva_base.proofs.Membership.{filter_in, writing_decides, reading_decides}
 use Rattle.row_store.specs.declared.versions.Version.{Version as StoredVersion}
 use Rattle.row_store.specs.Stores.{Seen, version_at, has, row_in}
 use Rattle.control_core.specs.Leaving.{IsLoadedStore}

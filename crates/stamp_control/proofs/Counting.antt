@@ -8,7 +8,7 @@ use Rattle.deneva_base.specs.declared.numbers.Attempt.{Attempt}
 use Rattle.deneva_base.specs.Keys.{attempt_eq}
 use Rattle.deneva_base.specs.Lists.{IsIn}
 use Rattle.deneva_base.specs.Modes.{writes}
-use Rattle.deneva_base.proofs.Words.{attempt_tells}
+use Rattle.deneva_base.proofs.Membership.{attempt_tells}
 use Rattle.stamp_lines.specs.declared.requests.Request.{Request}
 use Rattle.stamp_lines.specs.declared.lines.Waiter.{Waiter}
 use Rattle.stamp_lines.specs.Requests.{put_request, without}

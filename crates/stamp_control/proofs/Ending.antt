@@ -7,21 +7,21 @@ use Rattle.deneva_base.specs.declared.numbers.Number.{Number}
 use Rattle.deneva_base.specs.declared.rows.Keyed.{Keyed}
 use Rattle.deneva_base.specs.declared.causes.Bound.{Bound}
 use Rattle.deneva_base.specs.declared.answers.Vote.TheVariants.{Yes}
-use Rattle.deneva_base.specs.Conditions.{MayPrepare, MayCommit, MayAbort, Distinct}
-use Rattle.deneva_base.specs.History.{Prepare, Commit, Abort, History, Asked, waits, yeas, IsUnended}
+use Rattle.protocol_rules.specs.Conditions.{MayPrepare, MayCommit, MayAbort, Distinct}
+use Rattle.protocol_rules.specs.History.{Prepare, Commit, Abort, History, Asked, waits, yeas, IsUnended}
 use Rattle.deneva_base.specs.Keys.{key_eq, number_lt}
-use Rattle.deneva_base.specs.Latest.{Version, row_for, writes_in, latest, newer}
-use Rattle.deneva_base.specs.Leaving.{later as later_row, left_in}
+use Rattle.protocol_rules.specs.Latest.{Version, row_for, writes_in, latest, newer}
+use Rattle.protocol_rules.specs.Leaving.{later as later_row, left_in}
 use Rattle.deneva_base.specs.Lists.{IsIn}
 use Rattle.deneva_base.specs.Rows.{Row, Rows}
-use Rattle.deneva_base.specs.Timestamp.{top_read}
-use Rattle.deneva_base.specs.Versions.{version_of as written_as, written, start, greatest, later, below}
-use Rattle.deneva_base.proofs.Belows.{Listed}
-use Rattle.deneva_base.proofs.Known.{Known}
-use Rattle.deneva_base.proofs.Marks.{Marked}
-use Rattle.deneva_base.proofs.Sound.{Sound, row_found, writes_found}
-use Rattle.deneva_base.proofs.Traced.{Traced}
-use Rattle.deneva_base.proofs.Words.{any_at, in_cases, writing_decides}
+use Rattle.protocol_rules.specs.Timestamp.{top_read}
+use Rattle.protocol_rules.specs.Versions.{version_of as written_as, written, start, greatest, later, below}
+use Rattle.protocol_rules.proofs.Belows.{Listed}
+use Rattle.protocol_rules.proofs.Known.{Known}
+use Rattle.protocol_rules.proofs.Marks.{Marked}
+use Rattle.protocol_rules.proofs.Sound.{Sound, row_found, writes_found}
+use Rattle.protocol_rules.proofs.Traced.{Traced}
+use Rattle.deneva_base.proofs.Membership.{any_at, in_cases, writing_decides}
 use Rattle.row_store.specs.declared.versions.Version.{Version as StoredVersion}
 use Rattle.control_core.specs.Leaving.{last}
 use Rattle.stamp_lines.specs.declared.requests.Request.{Request}

@@ -6,22 +6,22 @@ use Rattle.deneva_base.specs.declared.keys.Key.{Key}
 use Rattle.deneva_base.specs.declared.numbers.Attempt.{Attempt}
 use Rattle.deneva_base.specs.declared.numbers.Number.{Number}
 use Rattle.deneva_base.specs.declared.answers.Vote.TheVariants.{Yes, No}
-use Rattle.deneva_base.specs.Conditions.{MayAsk, MayCommit, Distinct}
-use Rattle.deneva_base.specs.History.{Ask, Prepare, Commit, Abort, History, Asked, Yea, Decided, asks, yeas, decided, aborted, ended, Writes}
+use Rattle.protocol_rules.specs.Conditions.{MayAsk, MayCommit, Distinct}
+use Rattle.protocol_rules.specs.History.{Ask, Prepare, Commit, Abort, History, Asked, Yea, Decided, asks, yeas, decided, aborted, ended, Writes}
 use Rattle.deneva_base.specs.Keys.{number_lt, loaded_version}
-use Rattle.deneva_base.specs.Latest.{Version, row_for, writes_in, latest, newer}
+use Rattle.protocol_rules.specs.Latest.{Version, row_for, writes_in, latest, newer}
 use Rattle.deneva_base.specs.Lists.{IsIn, greatest_by}
 use Rattle.deneva_base.specs.Rows.{Row, Rows}
-use Rattle.deneva_base.specs.Rules.{Rule, Obeys}
-use Rattle.deneva_base.specs.Timestamp.{top_written}
-use Rattle.deneva_base.specs.Versions.{version_of, written, start, greatest, below}
-use Rattle.deneva_base.proofs.Belows.{Listed}
-use Rattle.deneva_base.proofs.Known.{Known}
-use Rattle.deneva_base.proofs.Marks.{Marked, stamps_differ}
-use Rattle.deneva_base.proofs.Sound.{Sound, row_found, writes_found}
-use Rattle.deneva_base.proofs.Timestamps.{top_by}
-use Rattle.deneva_base.proofs.Traced.{Traced}
-use Rattle.deneva_base.proofs.Words.{attempt_tells}
+use Rattle.protocol_rules.specs.Rules.{Rule, Obeys}
+use Rattle.protocol_rules.specs.Timestamp.{top_written}
+use Rattle.protocol_rules.specs.Versions.{version_of, written, start, greatest, below}
+use Rattle.protocol_rules.proofs.Belows.{Listed}
+use Rattle.protocol_rules.proofs.Known.{Known}
+use Rattle.protocol_rules.proofs.Marks.{Marked, stamps_differ}
+use Rattle.protocol_rules.proofs.Sound.{Sound, row_found, writes_found}
+use Rattle.protocol_rules.proofs.Timestamps.{top_by}
+use Rattle.protocol_rules.proofs.Traced.{Traced}
+use Rattle.deneva_base.proofs.Membership.{attempt_tells}
 
 filter_all : {A : Type 0} (p : A → Bool) (xs : List A) → ((x : A) → IsIn x xs → p x ≡ true) → filter p xs ≡ xs
 filter_all p [] f = refl

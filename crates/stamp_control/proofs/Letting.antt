@@ -4,17 +4,17 @@ use Rattle.std.proofs.lemmas.Bool.{lt-ltb}
 use Rattle.std.specs.List.{list_any}
 use Rattle.deneva_base.specs.declared.keys.Key.{Key}
 use Rattle.deneva_base.specs.declared.numbers.Attempt.{Attempt}
-use Rattle.deneva_base.specs.History.{History, Asked, Grant, grants, waits, IsUnended}
+use Rattle.protocol_rules.specs.History.{History, Asked, Grant, grants, waits, IsUnended}
 use Rattle.deneva_base.specs.Keys.{key_eq, attempt_eq}
 use Rattle.deneva_base.specs.Lists.{IsIn, sort}
-use Rattle.deneva_base.specs.Order.{by_rising_stamp}
+use Rattle.protocol_rules.specs.Order.{by_rising_stamp}
 use Rattle.deneva_base.specs.Rows.{Rows}
-use Rattle.deneva_base.specs.Waiting.{holders, older_writer, holds, goes as goes_by_rule}
-use Rattle.deneva_base.proofs.Known.{Known}
-use Rattle.deneva_base.proofs.Sorts.{Distinct}
-use Rattle.deneva_base.proofs.Stops.{held_from}
-use Rattle.deneva_base.proofs.Traced.{Traced}
-use Rattle.deneva_base.proofs.Words.{and_parts, any_found, key_decides, attempt_decides}
+use Rattle.protocol_rules.specs.Waiting.{holders, older_writer, holds, goes as goes_by_rule}
+use Rattle.protocol_rules.proofs.Known.{Known}
+use Rattle.protocol_rules.proofs.Sorts.{Distinct}
+use Rattle.protocol_rules.proofs.Stops.{held_from}
+use Rattle.protocol_rules.proofs.Traced.{Traced}
+use Rattle.deneva_base.proofs.Membership.{and_parts, any_found, key_decides, attempt_decides}
 use Rattle.stamp_lines.specs.declared.requests.Request.{Request}
 use Rattle.stamp_lines.specs.declared.lines.Waiter.{Waiter}
 use Rattle.stamp_lines.specs.declared.accesses.Accesses.{Accesses}

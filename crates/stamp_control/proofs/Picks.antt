@@ -6,7 +6,7 @@ use Rattle.std.proofs.lemmas.Bool.Decides.{nat_tests}
 use Rattle.deneva_base.specs.declared.numbers.Number.{Number}
 use Rattle.deneva_base.specs.Lists.{IsIn}
 use Rattle.deneva_base.specs.Keys.{number_lt}
-use Rattle.deneva_base.proofs.Words.{any_found, and_parts, and_true, in_cases, in_left, in_right}
+use Rattle.deneva_base.proofs.Membership.{any_found, and_parts, and_true, in_cases, in_left, in_right}
 use Rattle.row_store.specs.declared.versions.Version.{Version}
 use Rattle.stamp_control.specs.Picks.{newer_than, offer, pick_from, pick, is_above, is_read}
 

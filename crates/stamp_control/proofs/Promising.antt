@@ -10,12 +10,13 @@ use Rattle.deneva_base.specs.declared.answers.Vote.TheVariants.{Yes, No}
 use Rattle.deneva_base.specs.Lists.{IsIn}
 use Rattle.deneva_base.specs.Rows.{Rows}
 use Rattle.deneva_base.specs.Keys.{key_eq, attempt_eq, number_lt}
-use Rattle.deneva_base.specs.History.{Ask, Prepare, Commit, Abort, History, Yea, yeas, ended, closed, IsUnended}
-use Rattle.deneva_base.specs.Latest.{row_for, writes_in, has_ended}
-use Rattle.deneva_base.specs.Leaving.{later, left_in as rows_in_vote}
-use Rattle.deneva_base.specs.Rules.{Rule, Obeys}
-use Rattle.deneva_base.proofs.Words.{attempt_tells, not_ended}
-use Rattle.deneva_base.proofs.Sound.{Sound}
+use Rattle.protocol_rules.specs.History.{Ask, Prepare, Commit, Abort, History, Yea, yeas, ended, closed, IsUnended}
+use Rattle.protocol_rules.specs.Latest.{row_for, writes_in, has_ended}
+use Rattle.protocol_rules.specs.Leaving.{later, left_in as rows_in_vote}
+use Rattle.protocol_rules.specs.Rules.{Rule, Obeys}
+use Rattle.deneva_base.proofs.Membership.{attempt_tells}
+use Rattle.protocol_rules.proofs.Unended.{not_ended}
+use Rattle.protocol_rules.proofs.Sound.{Sound}
 use Rattle.row_store.specs.declared.versions.Version.{Version as StoredVersion}
 use Rattle.row_store.specs.Stores.{newest}
 use Rattle.control_core.proofs.Lasts.{appends_in, left_is, row_for_both, later_twice}

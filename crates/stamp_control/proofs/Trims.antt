@@ -2,10 +2,10 @@
 use Rattle.std.proofs.Common.{◌≡◌, ◌≢◌, ◌⊎◌, ℕ, zero, suc, ◌+◌, ◌<◌, ◌≤◌, List, [], ◌∷◌, ◌++◌, take, drop, length, get_or, Bool, true, false, not, ltb, ◌&&◌, refl, sym, ap, ◌∙◌, subst, inl, inr, ⊎_elim, arith, true≢false}
 use Rattle.deneva_base.specs.declared.keys.Key.{Key}
 use Rattle.deneva_base.specs.Lists.{IsIn}
-use Rattle.deneva_base.proofs.Words.{key_tells, any_at, any_found, and_true, and_parts}
+use Rattle.deneva_base.proofs.Membership.{key_tells, any_at, any_found, and_true, and_parts}
 use Rattle.deneva_base.specs.declared.numbers.Number.{Number}
 use Rattle.deneva_base.specs.Keys.{number_lt}
-use Rattle.deneva_base.proofs.Tries.{none_passes}
+use Rattle.protocol_rules.proofs.Tries.{none_passes}
 use Rattle.row_store.specs.declared.versions.Version.{Version}
 use Rattle.stamp_lines.specs.declared.requests.Request.{Request}
 use Rattle.stamp_control.specs.Picks.{pick, is_above, is_read, is_needed}

@@ -1,22 +1,22 @@
 -- The table tracks the history whose last call woke these waiters, and what is left of it when versions are dropped.
 use Rattle.std.proofs.Common.{◌≡◌, ℕ, max, ◌+◌, List, [], ◌∷◌, ◌++◌, map, filter, Bool, true, cond, ◌&&◌, length, refl, sym, ap, ap₂, ◌∙◌, subst, inl, inr, arith, Some, option_map}
 use Rattle.deneva_base.specs.declared.keys.Key.{Key}
-use Rattle.deneva_base.specs.History.{History, Asked, Grant, Yea, asks, grants, waits, yeas, ended, grant_of, grant_of_wake}
+use Rattle.protocol_rules.specs.History.{History, Asked, Grant, Yea, asks, grants, waits, yeas, ended, grant_of, grant_of_wake}
 use Rattle.deneva_base.specs.Keys.{key_eq}
-use Rattle.deneva_base.specs.Latest.{Version, latest}
+use Rattle.protocol_rules.specs.Latest.{Version, latest}
 use Rattle.deneva_base.specs.Lists.{IsIn, greatest_by, sort}
 use Rattle.deneva_base.specs.Modes.{reads}
-use Rattle.deneva_base.specs.Order.{by_rising_stamp}
+use Rattle.protocol_rules.specs.Order.{by_rising_stamp}
 use Rattle.deneva_base.specs.Rows.{Rows}
-use Rattle.deneva_base.specs.Timestamp.{top_read}
-use Rattle.deneva_base.specs.Versions.{below}
-use Rattle.deneva_base.specs.Waiting.{wake_of}
+use Rattle.protocol_rules.specs.Timestamp.{top_read}
+use Rattle.protocol_rules.specs.Versions.{below}
+use Rattle.protocol_rules.specs.Waiting.{wake_of}
 use Rattle.std.specs.List.{list_any}
 use Rattle.deneva_base.specs.Keys.{attempt_eq}
-use Rattle.deneva_base.proofs.Known.{Known}
-use Rattle.deneva_base.proofs.Traced.{asked_found}
-use Rattle.deneva_base.proofs.Words.{filter_in, key_decides}
-use Rattle.deneva_base.proofs.Sorts.{sort_in}
+use Rattle.protocol_rules.proofs.Known.{Known}
+use Rattle.protocol_rules.proofs.Traced.{asked_found}
+use Rattle.deneva_base.proofs.Membership.{filter_in, key_decides}
+use Rattle.protocol_rules.proofs.Sorts.{sort_in}
 use Rattle.row_store.specs.Stores.{version_at}
 use Rattle.row_store.proofs.Tables.{same_key-key_eq}
 use Rattle.control_core.specs.Leaving.{last}

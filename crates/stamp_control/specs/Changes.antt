@@ -12,7 +12,7 @@ use Rattle.deneva_base.specs.declared.causes.Cause.TheVariants.{Written, ReadLat
 use Rattle.deneva_base.specs.declared.answers.Wake.{Wake}
 use Rattle.deneva_base.specs.Keys.{key_eq, loaded_version}
 use Rattle.deneva_base.specs.Modes.{reads, writes}
-use Rattle.deneva_base.specs.Latest.{row_for}
+use Rattle.protocol_rules.specs.Latest.{row_for}
 use Rattle.row_store.specs.declared.versions.Version.{Version}
 use Rattle.row_store.specs.Stores.{Seen, version_at, newest}
 use Rattle.stamp_lines.specs.declared.requests.Request.{Request}

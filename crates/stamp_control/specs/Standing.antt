@@ -5,11 +5,11 @@ use Rattle.deneva_base.specs.declared.keys.Key.{Key}
 use Rattle.deneva_base.specs.Lists.{IsIn}
 use Rattle.deneva_base.specs.Keys.{number_lt}
 use Rattle.deneva_base.specs.Rows.{Row, Rows}
-use Rattle.deneva_base.specs.History.{History, Asked, Yea, waits, yeas}
-use Rattle.deneva_base.specs.Latest.{Version, latest, has_ended}
-use Rattle.deneva_base.specs.Rules.{Obeys}
-use Rattle.deneva_base.specs.Timestamp.{timestamp, top_read}
-use Rattle.deneva_base.specs.Versions.{below}
+use Rattle.protocol_rules.specs.History.{History, Asked, Yea, waits, yeas}
+use Rattle.protocol_rules.specs.Latest.{Version, latest, has_ended}
+use Rattle.protocol_rules.specs.Rules.{Obeys}
+use Rattle.protocol_rules.specs.Timestamp.{timestamp, top_read}
+use Rattle.protocol_rules.specs.Versions.{below}
 use Rattle.row_store.specs.declared.versions.Version.{Version as StoredVersion}
 use Rattle.row_store.specs.Stores.{version_at}
 use Rattle.control_core.specs.Leaving.{last}

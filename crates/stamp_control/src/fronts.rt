@@ -1,7 +1,7 @@
 //! Whom the end of an attempt lets go: the waiting accesses to its keys before which nobody else writes.
 ghost use Rattle.std.specs.Prelude.{◌≡◌, ◌++◌, map, filter, IfOk, OnOk};
 ghost use Rattle.std.specs.List.{list_any};
-ghost use Rattle.deneva_base.specs.WaitDie.{none};
+ghost use Rattle.protocol_rules.specs.WaitDie.{none};
 ghost use Rattle.stamp_control.specs.Fronts.{goes, waiter_for, front_over};
 
 use deneva_base::{Attempt, Key, NoMemory};

@@ -1,10 +1,10 @@
 //! TIMESTAMP as a control.
 ghost use Rattle.std.specs.Prelude.{false, refl};
-ghost use Rattle.deneva_base.specs.Timestamp.{timestamp};
+ghost use Rattle.protocol_rules.specs.Timestamp.{timestamp};
 ghost use Rattle.deneva_base.specs.declared.config.Protocol.TheVariants.{Timestamp};
-ghost use Rattle.deneva_base.proofs.Stamping.{windows_law};
-ghost use Rattle.deneva_base.proofs.StampsServed.{timestamp_waits};
-ghost use Rattle.deneva_base.proofs.Timestamps.{stamping};
+ghost use Rattle.protocol_rules.proofs.Stamping.{windows_law};
+ghost use Rattle.protocol_rules.proofs.StampsServed.{timestamp_waits};
+ghost use Rattle.protocol_rules.proofs.Timestamps.{stamping};
 ghost use Rattle.stamp_control.specs.Standing.{Stands};
 
 use crate::table::Table;

@@ -1,9 +1,9 @@
 //! A partition under timestamp ordering: its rows, the accesses to them, and what is kept of each key.
 ghost use Rattle.std.specs.Prelude.{◌≡◌, ◌≢◌, [], ◌≤◌, ◌<◌, ◌^◌, ◌+◌, ◌++◌, ◌&&◌, ℕ, true, map, option_map, IfOk, IfErr, IsOk, OnOk, OnErr, length};
-ghost use Rattle.deneva_base.specs.Conditions.{Distinct};
+ghost use Rattle.protocol_rules.specs.Conditions.{Distinct};
 ghost use Rattle.deneva_base.specs.Lists.{IsIn};
-ghost use Rattle.deneva_base.specs.Latest.{row_for};
-ghost use Rattle.deneva_base.specs.WaitDie.{none};
+ghost use Rattle.protocol_rules.specs.Latest.{row_for};
+ghost use Rattle.protocol_rules.specs.WaitDie.{none};
 ghost use Rattle.deneva_base.specs.declared.keys.Key.{Key};
 ghost use Rattle.deneva_base.specs.declared.rows.Keyed.{Keyed};
 ghost use Rattle.deneva_base.specs.declared.answers.Answer.TheVariants.{Granted, Waits};

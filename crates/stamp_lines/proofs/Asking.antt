@@ -8,12 +8,12 @@ use Rattle.deneva_base.specs.declared.causes.Cause.{Cause}
 use Rattle.deneva_base.specs.declared.answers.Answer.TheVariants.{Granted, Waits, Refused}
 use Rattle.deneva_base.specs.Lists.{IsIn}
 use Rattle.deneva_base.specs.Rows.{Row, Rows}
-use Rattle.deneva_base.specs.Conditions.{MayAsk}
-use Rattle.deneva_base.specs.History.{Ask, History, Asked, Grant, asks, IsUnended}
+use Rattle.protocol_rules.specs.Conditions.{MayAsk}
+use Rattle.protocol_rules.specs.History.{Ask, History, Asked, Grant, asks, IsUnended}
 use Rattle.deneva_base.specs.Keys.{attempt_eq}
-use Rattle.deneva_base.proofs.Words.{attempt_tells}
-use Rattle.deneva_base.proofs.Known.{Known}
-use Rattle.deneva_base.proofs.Traced.{Traced}
+use Rattle.deneva_base.proofs.Membership.{attempt_tells}
+use Rattle.protocol_rules.proofs.Known.{Known}
+use Rattle.protocol_rules.proofs.Traced.{Traced}
 use Rattle.stamp_lines.specs.declared.requests.Request.{Request}
 use Rattle.stamp_lines.specs.declared.accesses.Accesses.{Accesses}
 use Rattle.stamp_lines.specs.Requests.{put_request}

@@ -8,11 +8,11 @@ use Rattle.deneva_base.specs.declared.answers.Answer.{Answer}
 use Rattle.deneva_base.specs.declared.answers.Answer.TheVariants.{Granted, Waits, Refused}
 use Rattle.deneva_base.specs.Lists.{IsIn}
 use Rattle.deneva_base.specs.Rows.{Rows}
-use Rattle.deneva_base.specs.Conditions.{MayAsk, MayPrepare}
-use Rattle.deneva_base.specs.History.{Ask, Prepare, Commit, Abort, History, Asked, asks, waits, left_waiting, is_woken, stamp_of, IsUnended}
-use Rattle.deneva_base.proofs.Known.{Known}
-use Rattle.deneva_base.proofs.Traced.{Traced}
-use Rattle.deneva_base.proofs.Marks.{stamp_is}
+use Rattle.protocol_rules.specs.Conditions.{MayAsk, MayPrepare}
+use Rattle.protocol_rules.specs.History.{Ask, Prepare, Commit, Abort, History, Asked, asks, waits, left_waiting, is_woken, stamp_of, IsUnended}
+use Rattle.protocol_rules.proofs.Known.{Known}
+use Rattle.protocol_rules.proofs.Traced.{Traced}
+use Rattle.protocol_rules.proofs.Marks.{stamp_is}
 use Rattle.stamp_lines.specs.declared.accesses.Accesses.{Accesses}
 use Rattle.stamp_lines.specs.Tables.{Holding}
 use Rattle.stamp_lines.specs.Changes.{IsFresh}

@@ -9,12 +9,12 @@ use Rattle.deneva_base.specs.declared.answers.Vote.TheVariants.{Yes}
 use Rattle.deneva_base.specs.Lists.{IsIn}
 use Rattle.deneva_base.specs.Rows.{Rows}
 use Rattle.deneva_base.specs.Keys.{attempt_eq}
-use Rattle.deneva_base.specs.Conditions.{MayPrepare, MayCommit, MayAbort}
-use Rattle.deneva_base.specs.History.{Prepare, Commit, Abort, History, Asked, grants, waits, yeas, ended, closed, IsUnended, WaitsNowhere, is_woken}
-use Rattle.deneva_base.specs.Latest.{writes_in}
-use Rattle.deneva_base.proofs.Words.{attempt_tells}
-use Rattle.deneva_base.proofs.Sound.{Sound}
-use Rattle.deneva_base.proofs.Known.{Known}
+use Rattle.protocol_rules.specs.Conditions.{MayPrepare, MayCommit, MayAbort}
+use Rattle.protocol_rules.specs.History.{Prepare, Commit, Abort, History, Asked, grants, waits, yeas, ended, closed, IsUnended, WaitsNowhere, is_woken}
+use Rattle.protocol_rules.specs.Latest.{writes_in}
+use Rattle.deneva_base.proofs.Membership.{attempt_tells}
+use Rattle.protocol_rules.proofs.Sound.{Sound}
+use Rattle.protocol_rules.proofs.Known.{Known}
 use Rattle.control_core.proofs.Lasts.{appends_in}
 use Rattle.stamp_lines.specs.declared.requests.Request.{Request}
 use Rattle.stamp_lines.specs.declared.accesses.Accesses.{Accesses}

@@ -9,14 +9,14 @@ use Rattle.deneva_base.specs.Lists.{IsIn, sort}
 use Rattle.deneva_base.specs.Rows.{Rows}
 use Rattle.deneva_base.specs.Keys.{key_eq, key_lt, attempt_eq}
 use Rattle.deneva_base.specs.Modes.{writes}
-use Rattle.deneva_base.specs.History.{History, Asked, grants, waits, IsUnended}
-use Rattle.deneva_base.specs.Order.{Sorted, by_rising_stamp}
-use Rattle.deneva_base.specs.Waiting.{as_asked, holders, older_writer}
-use Rattle.deneva_base.proofs.Words.{in_cases, in_left, in_right, in_filter, filter_in, any_tells, any_at, and_true, and_parts, key_tells, key_decides, attempt_tells}
-use Rattle.deneva_base.proofs.Known.{Known}
-use Rattle.deneva_base.proofs.Sorts.{Distinct, distinct_filter, sort_in, in_sort, sorted_sort, sorted_filter, sorted_unique, rising_trans, rising_irrefl}
-use Rattle.deneva_base.proofs.Stops.{in_held, held_from}
-use Rattle.deneva_base.proofs.Stamped.{waits_total}
+use Rattle.protocol_rules.specs.History.{History, Asked, grants, waits, IsUnended}
+use Rattle.protocol_rules.specs.Order.{Sorted, by_rising_stamp}
+use Rattle.protocol_rules.specs.Waiting.{as_asked, holders, older_writer}
+use Rattle.deneva_base.proofs.Membership.{in_cases, in_left, in_right, in_filter, filter_in, any_tells, any_at, and_true, and_parts, key_tells, key_decides, attempt_tells}
+use Rattle.protocol_rules.proofs.Known.{Known}
+use Rattle.protocol_rules.proofs.Sorts.{Distinct, distinct_filter, sort_in, in_sort, sorted_sort, sorted_filter, sorted_unique, rising_trans, rising_irrefl}
+use Rattle.protocol_rules.proofs.Stops.{in_held, held_from}
+use Rattle.protocol_rules.proofs.Stamped.{waits_total}
 use Rattle.stamp_lines.specs.declared.requests.Request.{Request}
 use Rattle.stamp_lines.specs.Requests.{stops, is_stopped, is_writer, first_writer, reaches}
 use Rattle.stamp_lines.specs.Standing.{Seen, owner_of, waiter_of, IsOwner, IsWaiter, Rising, KeysRise, Tracks}

@@ -4,8 +4,8 @@ use Rattle.deneva_base.specs.declared.keys.Key.{Key}
 use Rattle.deneva_base.specs.declared.numbers.Attempt.{Attempt}
 use Rattle.deneva_base.specs.Lists.{IsIn}
 use Rattle.deneva_base.specs.Keys.{key_lt}
-use Rattle.deneva_base.specs.History.{History, Asked, Grant, grants, waits, yeas, IsUnended}
-use Rattle.deneva_base.specs.Latest.{writes_in}
+use Rattle.protocol_rules.specs.History.{History, Asked, Grant, grants, waits, yeas, IsUnended}
+use Rattle.protocol_rules.specs.Latest.{writes_in}
 use Rattle.control_core.proofs.Lasts.{appends_in}
 use Rattle.stamp_lines.specs.declared.requests.Request.{Request}
 use Rattle.stamp_lines.specs.declared.accesses.Accesses.{Accesses}

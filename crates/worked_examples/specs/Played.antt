@@ -1,8 +1,8 @@
 -- Calls at one partition, answered by a rule one after another.
 use Rattle.std.specs.Prelude.{ℕ, List, [], ◌∷◌, reverse, Some}
-use Rattle.deneva_base.specs.History.{Ask, Prepare, Commit, Abort, History}
+use Rattle.protocol_rules.specs.History.{Ask, Prepare, Commit, Abort, History}
 use Rattle.deneva_base.specs.Rows.{Row, Rows}
-use Rattle.deneva_base.specs.Rules.{Rule}
+use Rattle.protocol_rules.specs.Rules.{Rule}
 use Rattle.deneva_base.specs.declared.answers.Answer.{Answer}
 use Rattle.deneva_base.specs.declared.answers.Vote.{Vote}
 use Rattle.deneva_base.specs.declared.answers.Wake.{Wake}

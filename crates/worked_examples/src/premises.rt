@@ -1,7 +1,7 @@
 //! That the premises of the laws over runs can be met: by runs over two partitions in which one access waits and is woken,
 //! and one transaction is aborted and begins again, until it commits or is given up.
 ghost use Rattle.std.specs.Prelude.{◌≡◌, [], ◌∷◌, codes, length, true};
-ghost use Rattle.deneva_base.specs.History.{waits};
+ghost use Rattle.protocol_rules.specs.History.{waits};
 ghost use Rattle.deneva_base.specs.declared.config.Protocol.TheVariants.{WaitDie};
 ghost use Rattle.deneva_base.specs.declared.keys.Mode.TheVariants.{Update};
 ghost use Rattle.txn_program.specs.Transactions.{ycsb_key};

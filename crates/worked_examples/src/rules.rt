@@ -1,12 +1,12 @@
 //! Rules at work on the row of one key, loaded with `a`.
 ghost use Rattle.std.specs.Prelude.{◌≡◌, ◌^◌, [], ◌∷◌, codes, length, Some};
-ghost use Rattle.deneva_base.specs.History.{waits};
+ghost use Rattle.protocol_rules.specs.History.{waits};
 ghost use Rattle.deneva_base.specs.Keys.{loaded_version};
-ghost use Rattle.deneva_base.specs.Latest.{latest};
-ghost use Rattle.deneva_base.specs.Maat.{maat};
-ghost use Rattle.deneva_base.specs.NoWait.{no_wait};
-ghost use Rattle.deneva_base.specs.Timestamp.{timestamp};
-ghost use Rattle.deneva_base.specs.WaitDie.{wait_die};
+ghost use Rattle.protocol_rules.specs.Latest.{latest};
+ghost use Rattle.protocol_rules.specs.Maat.{maat};
+ghost use Rattle.protocol_rules.specs.NoWait.{no_wait};
+ghost use Rattle.protocol_rules.specs.Timestamp.{timestamp};
+ghost use Rattle.protocol_rules.specs.WaitDie.{wait_die};
 ghost use Rattle.deneva_base.specs.declared.answers.Answer.TheVariants.{Granted, Waits, Refused};
 ghost use Rattle.deneva_base.specs.declared.answers.Vote.TheVariants.{Yes, No};
 ghost use Rattle.deneva_base.specs.declared.causes.Cause.TheVariants.{Held, EmptyRange};

@@ -1,6 +1,6 @@
 -- Deliveries make runs, whatever the protocol.
 use Rattle.std.proofs.Common.{◌≡◌, ◌⊎◌, ℕ, Option, inl, inr, ⊎_elim}
-use Rattle.deneva_base.specs.Protocols.{Chosen}
+use Rattle.protocol_rules.specs.Protocols.{Chosen}
 use Rattle.deneva_base.specs.declared.config.Config.{Config}
 use Rattle.deneva_base.specs.declared.config.Protocol.{Protocol}
 use Rattle.deneva_base.specs.declared.config.Protocol.TheVariants.{NoWait, WaitDie, Timestamp, Mvcc, Maat, Calvin}

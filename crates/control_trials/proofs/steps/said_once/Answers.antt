@@ -2,8 +2,8 @@ use Rattle.std.proofs.Common.{List, [], subst, sym}
 use Rattle.std.specs.Prelude.{OnOk}
 use Rattle.std.proofs.lemmas.Result.{on_ok_weaker}
 use Rattle.deneva_base.specs.declared.rows.Keyed.{Keyed}
-use Rattle.deneva_base.specs.Conditions.{MayPrepare}
-use Rattle.deneva_base.specs.History.{History}
+use Rattle.protocol_rules.specs.Conditions.{MayPrepare}
+use Rattle.protocol_rules.specs.History.{History}
 use Rattle.deneva_base.specs.Rows.{Rows}
 use Rattle.control_trials.specs.declared.steps.Step.{Step}
 use Rattle.control_trials.specs.Trials.{attempt_of, bound_of, MayStep, answered, voted}

@@ -1,6 +1,6 @@
 use Rattle.std.proofs.Common.{List, [], ◌∷◌, refl}
 use Rattle.deneva_base.specs.declared.keys.Mode.TheVariants.{Read, Update}
-use Rattle.deneva_base.specs.WaitDie.{wait_die}
+use Rattle.protocol_rules.specs.WaitDie.{wait_die}
 use Rattle.row_store.specs.Stores.{row_in}
 use Rattle.control_trials.specs.declared.steps.Step.{Step}
 use Rattle.control_trials.specs.declared.steps.Step.TheVariants.{Ask, Abort}

@@ -1,6 +1,6 @@
 -- The laws are lemmas.
 use Rattle.std.proofs.Common.{sym, subst}
-use Rattle.deneva_base.specs.Waits.{WaitsLaw}
+use Rattle.protocol_rules.specs.Waits.{WaitsLaw}
 use Rattle.server_core.specs.Setting.{chosen_or_none}
 use Rattle.server_core.proofs.Voted.{serial, decided, rows}
 use Rattle.server_core.proofs.laws.quiet_runs_are_serial.Goals as goal

@@ -1,6 +1,6 @@
 use Rattle.std.proofs.Common.{◌∙◌, ◌+◌, sym, ap, ap₂, not, ◌&&◌, drop}
 use Rattle.std.specs.List.{list_any}
-use Rattle.deneva_base.specs.WaitDie.{none}
+use Rattle.protocol_rules.specs.WaitDie.{none}
 use Rattle.deneva_base.specs.declared.keys.Key.{Key}
 use Rattle.stamp_control.specs.Fronts.{goes, front_over}
 use Rattle.stamp_control.proofs.Idle.{idle_step}

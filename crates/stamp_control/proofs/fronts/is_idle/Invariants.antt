@@ -1,5 +1,5 @@
 use Rattle.std.proofs.Common.{◌≡◌, drop}
-use Rattle.deneva_base.specs.WaitDie.{none}
+use Rattle.protocol_rules.specs.WaitDie.{none}
 use Rattle.stamp_control.specs.Fronts.{front_over}
 use Rattle.stamp_control.proofs.fronts.is_idle.Given as goal
 

@@ -1,5 +1,5 @@
 use Rattle.std.proofs.Common.{◌≡◌, drop}
-use Rattle.deneva_base.specs.Latest.{row_for}
+use Rattle.protocol_rules.specs.Latest.{row_for}
 use Rattle.stamp_control.proofs.table.find_row.Given as goal
 
 -- none so far is of the key

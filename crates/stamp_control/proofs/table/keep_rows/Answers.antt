@@ -1,5 +1,5 @@
 use Rattle.std.proofs.Common.{◌≡◌, ◌≤◌, true, sym, ap, ◌∙◌, subst, inr}
-use Rattle.deneva_base.specs.Conditions.{Distinct}
+use Rattle.protocol_rules.specs.Conditions.{Distinct}
 use Rattle.deneva_base.specs.Lists.{IsIn}
 use Rattle.stamp_lines.specs.Tables.{requests_at}
 use Rattle.stamp_control.specs.Pasts.{Kept, past_at}

@@ -1,7 +1,7 @@
 use Rattle.std.proofs.Common.{subst, ◌∙◌, ◌&&◌, None}
 use Rattle.deneva_base.specs.Lists.{IsIn}
 use Rattle.deneva_base.specs.declared.numbers.TxnId.{TxnId}
-use Rattle.deneva_base.proofs.Words.{filter_in}
+use Rattle.deneva_base.proofs.Membership.{filter_in}
 use Rattle.server_core.specs.Ordered.{takes_part}
 use Rattle.calvin_seq.specs.Places.{setting_of}
 use Rattle.calvin_sched.specs.Asked.{all_free}

@@ -1,7 +1,7 @@
 use Rattle.std.proofs.Common.{◌≡◌, List, Bool, true, false, cond, eqb, refl, sym, ap, ◌∙◌, Option, None, option_map}
 use Rattle.std.proofs.lemmas.Result.{IfOk-weaker}
 use Rattle.deneva_base.specs.Partitions.{partition_of}
-use Rattle.deneva_base.specs.Protocols.{chosen}
+use Rattle.protocol_rules.specs.Protocols.{chosen}
 use Rattle.deneva_base.specs.Rows.{Row}
 use Rattle.deneva_base.specs.declared.config.Protocol.{Protocol}
 use Rattle.deneva_base.specs.declared.keys.Key.{Key}

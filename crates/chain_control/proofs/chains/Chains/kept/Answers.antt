@@ -1,6 +1,6 @@
 use Rattle.std.proofs.Common.{◌∙◌, ◌≤◌, ◌+◌, sym, subst, length, filter}
 use Rattle.deneva_base.specs.Keys.{key_eq}
-use Rattle.deneva_base.specs.History.{Asked, waits}
+use Rattle.protocol_rules.specs.History.{Asked, waits}
 use Rattle.chain_control.proofs.Calls.{kept_are}
 use Rattle.chain_control.proofs.Fews.{few_kept, all_kept}
 use Rattle.chain_control.proofs.chains.Chains.kept.Goals as goal

@@ -1,7 +1,7 @@
 use Rattle.std.proofs.Common.{◌++◌, ◌∙◌, ap, arith, List, length}
 use Rattle.std.proofs.lemmas.List.{nil_from_length}
 use Rattle.std.proofs.lemmas.Result.{on_ok_weaker}
-use Rattle.deneva_base.specs.History.{Asked}
+use Rattle.protocol_rules.specs.History.{Asked}
 use Rattle.chain_control.proofs.Places.{nil_from_map}
 use Rattle.chain_control.proofs.Calls.{present, promised, abort_few, abort_wakes, abort_stands}
 use Rattle.chain_control.proofs.chains.ChainsControl.abort.Goals as goal

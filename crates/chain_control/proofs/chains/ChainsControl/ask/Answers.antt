@@ -1,6 +1,6 @@
 use Rattle.std.proofs.Common.{sym, ◌∙◌, ◌∷◌, subst}
 use Rattle.std.proofs.lemmas.Result.{on_err_weaker, IfOk-weaker}
-use Rattle.deneva_base.specs.History.{Ask}
+use Rattle.protocol_rules.specs.History.{Ask}
 use Rattle.deneva_base.specs.declared.answers.Answer.{Answer}
 use Rattle.chain_control.specs.Standing.{Stands}
 use Rattle.chain_control.proofs.Outcomes.{both, err_gives}

@@ -1,7 +1,7 @@
 use Rattle.std.proofs.Common.{◌++◌, ◌∙◌, ap, arith, List, length}
 use Rattle.std.proofs.lemmas.List.{nil_from_length}
 use Rattle.std.proofs.lemmas.Result.{on_ok_weaker}
-use Rattle.deneva_base.specs.History.{Asked}
+use Rattle.protocol_rules.specs.History.{Asked}
 use Rattle.chain_control.proofs.Places.{nil_from_map}
 use Rattle.chain_control.proofs.Calls.{present, promised, commit_few, commit_wakes, commit_stands}
 use Rattle.chain_control.proofs.chains.ChainsControl.commit.Goals as goal

@@ -1,9 +1,9 @@
 use Rattle.std.proofs.Common.{sym, ◌∙◌, ◌∷◌, subst}
 use Rattle.std.proofs.lemmas.Result.{on_err_weaker, IfOk-weaker}
-use Rattle.deneva_base.specs.History.{Ask}
+use Rattle.protocol_rules.specs.History.{Ask}
 use Rattle.deneva_base.specs.declared.answers.Answer.{Answer}
 use Rattle.deneva_base.specs.declared.causes.Cause.TheVariants.{Held}
-use Rattle.deneva_base.specs.NoWait.{no_wait}
+use Rattle.protocol_rules.specs.NoWait.{no_wait}
 use Rattle.lock_control.specs.Standing.{Tracks, state_of}
 use Rattle.lock_control.proofs.Outcomes.{both}
 use Rattle.lock_control.proofs.Asking.{ask_refused}

@@ -1,10 +1,10 @@
 use Rattle.std.proofs.Common.{sym, ◌∙◌, ◌∷◌, subst}
 use Rattle.std.proofs.lemmas.Result.{on_err_weaker, IfOk-weaker}
-use Rattle.deneva_base.specs.History.{Ask}
+use Rattle.protocol_rules.specs.History.{Ask}
 use Rattle.deneva_base.specs.declared.answers.Answer.{Answer}
 use Rattle.deneva_base.specs.declared.causes.Cause.TheVariants.{Younger}
-use Rattle.deneva_base.specs.WaitDie.{wait_die}
-use Rattle.deneva_base.proofs.WaitDies.{wait_die_wakes}
+use Rattle.protocol_rules.specs.WaitDie.{wait_die}
+use Rattle.protocol_rules.proofs.WaitDies.{wait_die_wakes}
 use Rattle.lock_control.specs.Standing.{Tracks, state_of}
 use Rattle.lock_control.proofs.Outcomes.{both}
 use Rattle.lock_control.proofs.Asking.{ask_refused}

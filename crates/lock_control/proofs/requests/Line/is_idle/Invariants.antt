@@ -1,5 +1,5 @@
 use Rattle.std.proofs.Common.{◌≡◌, drop, []}
-use Rattle.deneva_base.specs.WaitDie.{none}
+use Rattle.protocol_rules.specs.WaitDie.{none}
 use Rattle.lock_control.specs.Requests.{front_of}
 use Rattle.lock_control.proofs.requests.Line.is_idle.Given as goal
 

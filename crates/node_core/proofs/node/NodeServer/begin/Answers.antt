@@ -1,5 +1,5 @@
 use Rattle.std.proofs.Common.{[], ap, sym, ◌∙◌, subst}
-use Rattle.deneva_base.specs.Protocols.{chosen}
+use Rattle.protocol_rules.specs.Protocols.{chosen}
 use Rattle.deneva_base.specs.Rows.{Rows}
 use Rattle.server_core.specs.Configs.{IsVoting}
 use Rattle.server_core.specs.Setting.{chosen_or_none}

@@ -1,4 +1,3 @@
-use Rattle.std.proofs.Common.{}
 use Rattle.deneva_base.specs.declared.keys.Key.{Key}
 use Rattle.stamp_lines.specs.Tables.{requests_at}
 use Rattle.stamp_control.specs.Pasts.{Trims, past_at}

@@ -1,7 +1,7 @@
 use Rattle.std.proofs.Common.{refl, ◌++◌, ◌∙◌, ap, arith, List, length}
 use Rattle.std.proofs.lemmas.List.{nil_from_length}
 use Rattle.std.proofs.lemmas.Result.{on_ok_weaker}
-use Rattle.deneva_base.specs.History.{Asked}
+use Rattle.protocol_rules.specs.History.{Asked}
 use Rattle.stamp_control.proofs.Calls.{present, promised, copies_distinct, spare, abort_few, abort_wakes, abort_tracks}
 use Rattle.stamp_control.proofs.Idle.{nil_from_map}
 use Rattle.stamp_control.proofs.stamps.StampsControl.abort.Goals as goal

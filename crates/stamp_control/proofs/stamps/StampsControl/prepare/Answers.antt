@@ -1,6 +1,6 @@
 use Rattle.std.proofs.Common.{◌∙◌, ◌∷◌, sym, subst}
 use Rattle.std.proofs.lemmas.Result.{on_err_weaker, IfOk-weaker}
-use Rattle.deneva_base.specs.History.{Prepare}
+use Rattle.protocol_rules.specs.History.{Prepare}
 use Rattle.deneva_base.specs.declared.answers.Vote.{Vote}
 use Rattle.stamp_control.specs.Standing.{Tracks, state_of}
 use Rattle.stamp_control.proofs.Outcomes.{both}

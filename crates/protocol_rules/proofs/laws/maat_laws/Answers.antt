@@ -1,0 +1,11 @@
+-- The laws are lemmas.
+use Rattle.protocol_rules.specs.Maat.{maat}
+use Rattle.protocol_rules.proofs.Rangeds.{windows_law, waits_law}
+use Rattle.protocol_rules.proofs.Maats.{ranging}
+use Rattle.protocol_rules.proofs.laws.maat_laws.Goals as goal
+
+pub returns : goal.returns
+returns c = record {
+  windows = λ span loaded h o. windows_law loaded (maat span loaded) (ranging span loaded) h o;
+  waits = λ span loaded h o. waits_law loaded (maat span loaded) (ranging span loaded) h o;
+}

@@ -1,0 +1,42 @@
+-- The greatest committed write of a key.
+use Rattle.std.specs.Prelude.{List, [], ◌∷◌, Bool, cond, Option, Some, None}
+use Rattle.std.specs.List.{list_any}
+use Rattle.deneva_base.specs.declared.keys.Key.{Key}
+use Rattle.deneva_base.specs.declared.numbers.Attempt.{Attempt}
+use Rattle.deneva_base.specs.declared.numbers.Number.{Number}
+use Rattle.deneva_base.specs.declared.keys.Mode.{Mode}
+use Rattle.deneva_base.specs.Rows.{Row, Rows, row_or_empty, row_of}
+use Rattle.deneva_base.specs.Keys.{loaded_version, attempt_eq, number_lt}
+use Rattle.deneva_base.specs.Modes.{reads}
+use Rattle.deneva_base.specs.declared.rows.Keyed.{Keyed}
+use Rattle.protocol_rules.specs.History.{Ask, Prepare, Commit, Abort, History, Yea, yeas, ended}
+
+abbrev pub row_for : Key → List Keyed → Option Row
+row_for key ws = row_of ws key
+
+abbrev pub writes_in : List Yea → Attempt → List Keyed
+writes_in [] who = []
+writes_in (y ∷ ys) who = cond (attempt_eq y.who who) y.writes (writes_in ys who)
+
+pub record Version : Type 0 where
+  pub number : Number
+  pub row : Row
+
+abbrev pub newer : Version → Number → Option Row → Version
+newer old number None = old
+newer old number (Some row) = cond (number_lt old.number number) (record { number = number; row = row }) old
+
+-- the greatest committed write of the key, or the loaded row
+abbrev pub latest : Rows → History → Key → Version
+latest loaded [] key = record { number = loaded_version; row = row_or_empty (loaded key) }
+latest loaded (Ask who stamp k mode answer ∷ h) key = latest loaded h key
+latest loaded (Prepare who bound writes appends vote ∷ h) key = latest loaded h key
+latest loaded (Commit who number woken ∷ h) key = newer (latest loaded h key) number (row_for key (writes_in (yeas h) who))
+latest loaded (Abort who woken ∷ h) key = latest loaded h key
+
+abbrev pub has_ended : History → Attempt → Bool
+has_ended h who = list_any (attempt_eq who) (ended h)
+
+-- what an access is granted where the version is found: a Put has no cells and version (0, 0)
+abbrev pub seen : Mode → Version → Version
+seen mode v = cond (reads mode) v (record { number = loaded_version; row = [] })

@@ -1,0 +1,43 @@
+-- What the two lock rules share.
+use Rattle.std.specs.Prelude.{ℕ, ◌+◌, ◌^◌, max, List, [], ◌∷◌, filter, ◌&&◌, ◌||◌, not, Bool, cond}
+use Rattle.std.specs.List.{list_any}
+use Rattle.deneva_base.specs.declared.keys.Key.{Key}
+use Rattle.deneva_base.specs.declared.numbers.Attempt.{Attempt}
+use Rattle.deneva_base.specs.declared.keys.Mode.{Mode}
+use Rattle.deneva_base.specs.Keys.{key_eq, attempt_eq, attempt_lt}
+use Rattle.deneva_base.specs.Modes.{writes}
+use Rattle.deneva_base.specs.declared.answers.Vote.{Vote}
+use Rattle.deneva_base.specs.declared.answers.Vote.TheVariants.{Yes}
+use Rattle.protocol_rules.specs.History.{History, Asked, Grant, Decided, grants, decided}
+use Rattle.protocol_rules.specs.Latest.{has_ended}
+
+abbrev pub conflicts : Attempt → Key → Mode → Attempt → Key → Mode → Bool
+conflicts who key mode by k m = key_eq key k && (not (attempt_eq who by) && (writes mode || writes m))
+
+abbrev pub clash : Grant → Grant → Bool
+clash a b = conflicts a.who a.key a.mode b.who b.key b.mode
+
+-- the granted accesses of unended attempts
+abbrev pub owners : History → List Grant
+owners h = filter (λ g. not (has_ended h g.who)) (grants h)
+
+-- those among them that conflict with an access
+abbrev pub blockers : History → Asked → List Grant
+blockers h a = filter (λ g. conflicts g.who g.key g.mode a.who a.key a.mode) (owners h)
+
+-- that of the least attempt
+abbrev pub least : Grant → List Grant → Grant
+least g [] = g
+least g (x ∷ xs) = least (cond (attempt_lt x.who g.who) x g) xs
+
+-- the committed attempt had an access that conflicted with one of the attempt's
+abbrev pub met : History → Attempt → Decided → Bool
+met h who d = list_any (λ mine. attempt_eq mine.who who && list_any (λ other. attempt_eq other.who d.who && clash other mine) (grants h)) (grants h)
+
+-- the greatest n of those committed attempts, and 0 without one
+abbrev pub greatest_met : History → Attempt → List Decided → ℕ
+greatest_met h who [] = 0
+greatest_met h who (d ∷ ds) = max (cond (met h who d) d.number.n 0) (greatest_met h who ds)
+
+abbrev pub lock_vote : History → Attempt → Vote
+lock_vote h who = Yes (1 + greatest_met h who (decided h)) (2 ^ 63)
