@@ -3,7 +3,7 @@ ghost use Rattle.std.specs.Prelude.{◌≡◌, ◌++◌, ◌∷◌, [], ◌≤�
 ghost use Rattle.coord.specs.Standing.{is_call};
 ghost use Rattle.node_core.specs.Places.{role_at};
 ghost use Rattle.node_core.specs.Standing.{NodeStands};
-ghost use Rattle.server_core.proofs.Served.{mails_fit_any, runs_end_any, mails_land_any, rows_kept_apart_any};
+ghost use Rattle.run_laws.proofs.NodeLaws.{mails_fit, runs_end, mails_between, rows_kept_apart};
 ghost use Rattle.server_core.specs.Roles.{FitsRole, said_by};
 ghost use Rattle.server_core.specs.declared.messages.Msg as messages;
 ghost use Rattle.run_trials.specs.Standing.{PlainStands};
@@ -93,13 +93,13 @@ impl<'w, C: Chosen> Handles for PlainNode<'w, C> {
         self.node.rows()
     }
 
-    ghost fits = { λ c w H flight is. mails_fit_any c w H flight };
+    ghost fits = { λ c w H flight is config valid run. mails_fit c w H flight config valid run };
 
-    ghost ends = { λ c w H flight is. runs_end_any c w H flight };
+    ghost ends = { λ c w H flight is config valid run. runs_end c w H flight config valid run };
 
-    ghost lands = { λ c w H flight x is. mails_land_any c w H flight x };
+    ghost lands = { λ c w H flight x is config valid run i. (mails_between c w H flight config valid run x i).1 };
 
-    ghost keeps_apart = { λ c w H flight p key is. rows_kept_apart_any c w H flight p key };
+    ghost keeps_apart = { λ c w H flight p key is config valid run other. rows_kept_apart c w H flight config valid run p key other };
 }
 
 impl<'w, C: Chosen> Server<'w> for PlainNode<'w, C> {
