@@ -1,17 +1,16 @@
 -- A run under Calvin is a run of its setting, and what is said of that holds of the configuration and workload.
-use Rattle.std.proofs.Common.{cond, ℕ, ◌≤◌, length, map, refl, ◌≡◌, List, [], None, sym, ap, ◌∙◌, subst, inl}
+use Rattle.std.proofs.Common.{append-nil, ◌∷◌, inl, inr, ⊎_elim, eqb, ap₂, cond, ℕ, ◌≤◌, length, map, refl, ◌≡◌, List, [], None, sym, ap, ◌∙◌, subst, inl}
 use Rattle.deneva_base.specs.Lists.{IsIn}
 use Rattle.deneva_base.specs.Partitions.{partition_of}
-use Rattle.deneva_base.specs.Rows.{row_of, in_key_order}
+use Rattle.deneva_base.specs.Rows.{row_of}
 use Rattle.deneva_base.specs.declared.config.Config.{Config}
 use Rattle.deneva_base.specs.declared.config.Protocol.TheVariants.{Calvin}
 use Rattle.deneva_base.specs.declared.keys.Key.{Key}
 use Rattle.deneva_base.specs.declared.numbers.TxnId.{TxnId}
-use Rattle.txn_program.specs.Serial.{all_ids, serial as serial_run}
+use Rattle.txn_program.specs.Serial.{all_ids}
 use Rattle.txn_program.specs.Valid.{IsValid}
 use Rattle.txn_program.specs.declared.programs.Workload.{Workload}
 use Rattle.txn_program.proofs.WorkloadLaws.{distinct_loaded}
-use Rattle.deneva_base.proofs.Membership.{in_map_from}
 use Rattle.server_core.specs.Atomic.{IsFinishedAt, IsAtomic}
 use Rattle.server_core.specs.Calvin.{says, opening}
 use Rattle.server_core.specs.CalvinProper.{Valid}
@@ -19,10 +18,10 @@ use Rattle.server_core.specs.CalvinSerial.{serial_after, serial_lines}
 use Rattle.server_core.specs.Configs.{IsConfig}
 use Rattle.server_core.specs.Fits.{AllFitting}
 use Rattle.server_core.specs.GlobalOrder.{order, number}
-use Rattle.server_core.specs.IsSerial.{IsSerial, IsDecided, Rises, ran}
+use Rattle.server_core.specs.IsSerial.{IsSerial, Rises, ran}
 use Rattle.server_core.specs.NodeRows.{ordered_rows, rows_under, rows_of_node}
 use Rattle.server_core.specs.CalvinScheduler.{now}
-use Rattle.server_core.specs.Outcome.{outcome, outcome_with, sort_lines, rows_of, last_rows}
+use Rattle.server_core.specs.Outcome.{outcome, outcome_with, rows_of}
 use Rattle.server_core.specs.Picks.{Progress, deliveries, position, picked, most_ordered, most_under, most_entries}
 use Rattle.server_core.specs.Runs.{heard, Reaches}
 use Rattle.server_core.specs.Says.{IsRun, IsQuiet, says_under, opening_under}
@@ -41,9 +40,18 @@ use Rattle.calvin_laws.proofs.counts.Deliveries.{schedule_run, ends}
 use Rattle.calvin_laws.proofs.counts.Limits.{each_fits}
 use Rattle.server_core.proofs.lists.ListTests.{same_number}
 use Rattle.calvin_laws.proofs.serial.Outcomes.{runs_same, after_same, ids_back, numbers_are, lines_rise, rows_are}
-use Rattle.calvin_laws.proofs.order.Orders.{in_order}
 use Rattle.server_core.proofs.serial.SerialMaps.{serial_listed, row_listed}
-use Rattle.server_core.proofs.serial.SortedLines.{rising_sorted}
+use Rattle.server_core.proofs.serial.InOrder.{calvin_order}
+use Rattle.calvin_laws.proofs.serial.EachOnce.{each_once}
+use Rattle.calvin_laws.proofs.serial.Told.{finished_told}
+use Rattle.calvin_laws.proofs.order.Orders.{order_in}
+use Rattle.server_core.specs.ReportOrder.{InReportOrder}
+use Rattle.server_core.specs.Told.{IsTold, numbers_at}
+use Rattle.server_core.specs.CalvinSerial.{serial_step}
+use Rattle.std.specs.Prelude.{IsPermutation}
+use Rattle.std.specs.List.{list_any}
+use Rattle.deneva_base.specs.Rows.{Rows}
+use Rattle.deneva_base.specs.declared.numbers.Number.{Number}
 use Rattle.server_core.proofs.serial.SerialWords.{serial as serial_by_key, rows_after}
 use Rattle.calvin_laws.proofs.serial.Settled.{lines_serial, node_rows}
 use Rattle.server_core.proofs.configured.Workloads as workload
@@ -102,23 +110,34 @@ module _ (c : Config) (w : Workload) (is : c.protocol ≡ Calvin) (config : IsCo
         ∙ ap (λ m. m key) (after_same s s.loaded (order s))
         ∙ rows_are s v (workload.distinct c w good) (workload.distinct_appends c w good) key
 
-    decided : (x : TxnId) → IsIn x s.ids → IsDecided (outcome_with c w lines [] []) x
-    decided x i = there (in_order s v x i)
-      where
-        there : IsIn x (order s) → (l : Decided) × IsIn l lines × (l.number.id ≡ x)
-        there j = let k = in_map_from (λ (l : Decided). l.number.id) x lines (subst (λ xs. IsIn x xs) (sym (ids_back s s.loaded (order s))) j) in (k.0, k.1, sym k.2)
-
     pub serial : IsSerial w (outcome c w H)
     serial =
-        let again : lines ≡ sort_lines lines = sym (rising_sorted lines rise) in
-        let same : serial_run w (map (λ (l : Decided). l.number.id) lines) ≡ record { runs = map ran lines; rows = in_key_order (last_rows s w.load.rows lines) }
-        = serial_listed c w (distinct_loaded w good) lines replayed last in
         subst (IsSerial w) (sym outcome_is) (record {
-          rising = subst Rises again rise;
-          same = subst (λ (ls : List Decided). serial_run w (map (λ (l : Decided). l.number.id) ls) ≡ record { runs = map ran ls; rows = in_key_order (last_rows s w.load.rows lines) }) again same;
-          all = λ x i. inl (decided x i);
-          not_both = λ x d u. u.1;
+          rising = rise;
+          same = serial_listed c w (distinct_loaded w good) lines replayed last;
+          whole = subst (IsPermutation s.ids) (sym (ids_back s s.loaded (order s)) ∙ sym (append-nil (map (λ (l : Decided). l.number.id) lines))) (each_once s v);
         })
+
+    pub in_report_order : InReportOrder (outcome c w H)
+    in_report_order = subst InReportOrder (sym outcome_is) (calvin_order c w H lines rise)
+
+    line_is : (rows : Rows) (xs : List TxnId) (l : Decided) → IsIn l (serial_lines s rows xs) → (x : TxnId) × IsIn x xs × ((l.number ≡ number s x) × (l.parts ≡ parts_for s x))
+    line_is rows [] l i = absurd i
+    line_is rows (x ∷ xs) l i =
+        ⊎_elim
+        (λ e. (x, inl refl, (ap (λ (z : Decided). z.number) e, ap (λ (z : Decided). z.parts) e)))
+        (λ r. let n = line_is (serial_step s rows x) xs l r in (n.0, inr n.1, n.2))
+        i
+
+    decided_told : (l : Decided) (p : ℕ) → IsIn l lines → numbers_at s H l.number.id p ≡ cond (list_any (λ q. eqb q p) l.parts) (l.number ∷ []) []
+    decided_told l p i =
+        let n = line_is s.loaded (order s) l i in
+        ap (λ (k : Number). numbers_at s H k.id p) n.2.0
+        ∙ finished_told s n.0 p v (forms c w good) H run (order_in s n.0 n.1)
+        ∙ ap₂ (λ (qs : List ℕ) (k : Number). cond (list_any (λ q. eqb q p) qs) (k ∷ []) []) (sym n.2.1) (sym n.2.0)
+
+    pub told : IsTold s H (outcome c w H)
+    told = subst (IsTold s H) (sym outcome_is) (record { decided = decided_told; given_up = λ g p i. absurd i })
 
     pub rows : (key : Key) → rows_of_node c w (partition_of key c.parts) (heard (partition_of key c.parts) H) key ≡ row_of (outcome c w H).rows key
     rows key =

@@ -3,3 +3,5 @@ pub mod SerialTurns
 pub mod Settled
 pub mod FinishedOnce
 pub mod Outcomes
+pub mod EachOnce
+pub mod Told

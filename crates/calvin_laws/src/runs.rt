@@ -31,10 +31,12 @@ ghost use Rattle.server_core.specs.Outcome.{ordered_lines, outcome};
 ghost use Rattle.server_core.specs.Picks.{Progress, PicksOne, deliver, deliveries, most_ordered, most_entries, picked};
 ghost use Rattle.server_core.specs.Proper.{ids_in};
 ghost use Rattle.server_core.specs.Ready.{IsReady};
+ghost use Rattle.server_core.specs.ReportOrder.{InReportOrder};
 ghost use Rattle.server_core.specs.Runs.{heard};
 ghost use Rattle.server_core.specs.Says as any;
 ghost use Rattle.server_core.specs.Says.{IsQuiet};
 ghost use Rattle.server_core.specs.Setting.{Setting, setting, parts_for};
+ghost use Rattle.server_core.specs.Told.{IsTold};
 ghost use Rattle.server_core.specs.declared.messages.Entry.{Entry};
 ghost use Rattle.server_core.specs.declared.messages.Mail.{Mail};
 ghost use Rattle.server_core.specs.declared.messages.Msg.TheVariants.{Rows};
@@ -106,8 +108,8 @@ pub fn calvin_quiet_runs_are_serial()
 /// What holds of every run of Calvin, whatever the configuration, the valid workload and the order of deliveries. In
 /// every run each mail in flight fits its node, the run is no longer than a bound that the configuration and the workload
 /// give, and no abort is listed. What a schedule picks is a quiet run. In every quiet run each transaction is finished
-/// once at each of its participants; each is decided, in the order and with the number of the global order; executed one
-/// at a time in that order they have the same reads and last rows, and those are the nodes' rows. So all quiet runs have
+/// once at each of its participants and nowhere else; each is decided, in the order and with the number of the global order;
+/// executed one at a time in that order they have the same reads and final rows, and those are the nodes' rows. So all quiet runs have
 /// one outcome.
 pub fn calvin_runs_are_right()
     ensures fits { (c : Config) (w : Workload) (H : List Entry) (flight : List Mail) → IsConfig c → IsValid w → c.protocol ≡ Calvin → any.IsRun c w H flight → fit.AllFitting c w H flight }
@@ -117,6 +119,8 @@ pub fn calvin_runs_are_right()
     ensures atomic { (c : Config) (w : Workload) (H : List Entry) → IsConfig c → IsValid w → c.protocol ≡ Calvin → IsQuiet c w H → IsAtomic c w H }
     ensures finished { (c : Config) (w : Workload) (H : List Entry) (x : TxnId) (p : ℕ) → IsConfig c → IsValid w → c.protocol ≡ Calvin → IsQuiet c w H → IsIn x (all_ids w) → IsIn p (parts_for (setting c w) x) → IsFinishedAt (setting c w) H x p }
     ensures serial { (c : Config) (w : Workload) (H : List Entry) → IsConfig c → IsValid w → c.protocol ≡ Calvin → IsQuiet c w H → IsSerial w (outcome c w H) }
+    ensures told { (c : Config) (w : Workload) (H : List Entry) → IsConfig c → IsValid w → c.protocol ≡ Calvin → IsQuiet c w H → IsTold (setting c w) H (outcome c w H) }
+    ensures in_order { (c : Config) (w : Workload) (H : List Entry) → IsConfig c → IsValid w → c.protocol ≡ Calvin → IsQuiet c w H → InReportOrder (outcome c w H) }
     ensures rows { (c : Config) (w : Workload) (H : List Entry) (key : Key) → IsConfig c → IsValid w → c.protocol ≡ Calvin → IsQuiet c w H → rows_of_node c w (partition_of key c.parts) (heard (partition_of key c.parts) H) key ≡ row_of (outcome c w H).rows key }
     ensures one { (c : Config) (w : Workload) (H K : List Entry) → IsConfig c → IsValid w → c.protocol ≡ Calvin → IsQuiet c w H → IsQuiet c w K → outcome c w H ≡ outcome c w K }
     ensures order { (c : Config) (w : Workload) (H : List Entry) → IsConfig c → IsValid w → c.protocol ≡ Calvin → IsQuiet c w H → map (λ (l : Decided). l.number) (outcome c w H).decided ≡ map (number (setting c w)) (order (setting c w)) }

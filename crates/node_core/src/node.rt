@@ -1,5 +1,6 @@
 //! A node of a voting protocol.
 ghost use Rattle.std.specs.Prelude.{◌≡◌};
+ghost use Rattle.std.proofs.Common.{sym, ◌∙◌};
 ghost use Rattle.voting_laws.proofs.NodeLaws.{mails_fit, runs_end, mails_land, rows_kept_apart};
 ghost use Rattle.node_core.specs.Places.{role_at};
 ghost use Rattle.node_core.specs.Standing.{NodeStands};

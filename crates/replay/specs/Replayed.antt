@@ -10,8 +10,10 @@ use Rattle.server_core.specs.IsSerial.{IsSerial}
 use Rattle.server_core.specs.Named.{AllNamed}
 use Rattle.server_core.specs.Outcome.{outcome, outcome_with}
 use Rattle.server_core.specs.Picks.{picked}
+use Rattle.server_core.specs.ReportOrder.{InReportOrder}
 use Rattle.server_core.specs.Says.{IsQuiet}
 use Rattle.server_core.specs.Setting.{setting}
+use Rattle.server_core.specs.Told.{IsTold}
 use Rattle.server_core.specs.declared.outcomes.Outcome.{Outcome}
 use Rattle.server_core.specs.declared.schedules.Schedule.{Schedule}
 use Rattle.replay.specs.declared.runs.Ran.{Ran}
@@ -28,14 +30,16 @@ in_global_order parts w =
     outcome_with (in_order parts) w (serial_lines s s.loaded (order s)) [] []
 
 -- the run that the schedule picks, which has nothing in flight after it, and its outcome: its decided transactions,
--- executed one at a time in the order of their numbers, give each its reads and the last rows; each transaction is decided
--- at all its participants or at none; each abort names what its protocol's rule found there; and under Calvin, whatever
--- the schedule, the outcome is that of the global order
+-- executed one at a time in the order of their numbers, give each its reads and the final rows; each transaction is decided
+-- at all its participants or at none, and its line tells so; each abort names what its protocol's rule found there; the
+-- lines stand in the order of a report; and under Calvin, whatever the schedule, the outcome is that of the global order
 pub record Replays (c : Config) (w : Workload) (schedule : Schedule) (ran : Ran) : Type 0 where
   pub history : ran.history ≡ reverse (picked c w schedule)
   pub quiet : IsQuiet c w (picked c w schedule)
   pub outcome : ran.outcome ≡ outcome c w (picked c w schedule)
   pub serial : IsSerial w ran.outcome
+  pub in_order : InReportOrder ran.outcome
+  pub told : IsTold (setting c w) (picked c w schedule) ran.outcome
   pub atomic : IsAtomic c w (picked c w schedule)
   pub named : AllNamed c w (picked c w schedule)
   pub ordered : c.protocol ≡ Calvin → ran.outcome ≡ in_global_order c.parts w

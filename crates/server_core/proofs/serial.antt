@@ -4,3 +4,4 @@ pub mod GreatestWrites
 pub mod SerialWords
 pub mod Serials
 pub mod SerialMaps
+pub mod InOrder

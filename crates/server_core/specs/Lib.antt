@@ -25,6 +25,8 @@ pub mod Aborts
 pub mod Outcome
 pub mod NodeRows
 pub mod IsSerial
+pub mod ReportOrder
+pub mod Told
 pub mod VotingAtomic
 pub mod Atomic
 pub mod VotingNamed

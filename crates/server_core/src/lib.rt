@@ -5,6 +5,7 @@
 mod messages;
 mod openings;
 mod outbox;
+mod outcome_laws;
 mod outcomes;
 mod schedules;
 mod server;
@@ -17,6 +18,7 @@ use deneva_base::{Items, Keyed, Shared};
 pub use messages::{Entry, Mail, Msg};
 pub use openings::opening;
 pub use outbox::Outbox;
+pub use outcome_laws::outcomes_are_in_order;
 pub use outcomes::{AbortLine, Decided, Giveup, Outcome, RunKind};
 pub use schedules::Schedule;
 pub use server::{Handles, Letter, Server};

@@ -12,7 +12,7 @@ use Rattle.deneva_base.specs.Lists.{IsIn}
 use Rattle.protocol_rules.specs.Naming.{Naming}
 use Rattle.deneva_base.specs.Partitions.{partition_of}
 use Rattle.protocol_rules.specs.Protocols.{Chosen, chosen}
-use Rattle.deneva_base.specs.Rows.{row_of, in_key_order}
+use Rattle.deneva_base.specs.Rows.{row_of}
 use Rattle.protocol_rules.specs.Waits.{WaitsLaw}
 use Rattle.deneva_base.specs.declared.config.Config.{Config}
 use Rattle.deneva_base.specs.declared.keys.Key.{Key}
@@ -24,7 +24,9 @@ use Rattle.txn_program.proofs.Loads.{distinct_rows}
 use Rattle.server_core.specs.Aborts.{aborts_of}
 use Rattle.server_core.specs.Atomic.{IsAtomic, IsAllOrNone}
 use Rattle.server_core.specs.Fits.{AllFitting, AllFittingBy, suits_under}
-use Rattle.server_core.specs.IsSerial.{IsSerial, IsDecided, IsGivenUp, Rises, ran}
+use Rattle.server_core.specs.IsSerial.{IsSerial, IsDecided, IsGivenUp, ran}
+use Rattle.server_core.specs.ReportOrder.{InReportOrder}
+use Rattle.server_core.specs.Told.{IsTold}
 use Rattle.server_core.specs.Named.{AllNamed, IsNamedUnder}
 use Rattle.server_core.specs.NodeRows.{node_rows}
 use Rattle.server_core.specs.Outcome.{outcome, outcome_with, outcome_under, lines, sort_lines, giveups_of, last_rows}
@@ -41,9 +43,11 @@ use Rattle.voting_laws.proofs.fits.Every.{each_fits}
 use Rattle.voting_laws.proofs.named.Names.{named}
 use Rattle.voting_laws.proofs.serial.Nodes.{node_row}
 use Rattle.voting_laws.proofs.numbers.Numbers.{run_good, run_small, run_top, run_under}
+use Rattle.server_core.proofs.serial.InOrder.{voting_order}
 use Rattle.server_core.proofs.serial.SerialMaps.{serial_listed, row_listed}
-use Rattle.voting_laws.proofs.serial.SerialOutcomes.{lines_rise, never_both, runs_same, rows_same, rows_sorted}
-use Rattle.server_core.proofs.serial.SortedLines.{rising_sorted}
+use Rattle.voting_laws.proofs.serial.EachOnce.{each_once}
+use Rattle.voting_laws.proofs.serial.Told.{decided_told, given_up_told}
+use Rattle.voting_laws.proofs.serial.SerialOutcomes.{lines_rise, runs_same, rows_same, rows_sorted}
 use Rattle.voting_laws.proofs.Wholes.{whole}
 use Rattle.server_core.specs.VotingRuns as voting
 
@@ -93,16 +97,21 @@ module _ (c : Config) (w : Workload) (o : Chosen) (is : chosen c.protocol ≡ So
     serial valid H r all =
         let g = run_good s v lim H [] (voting_run H [] r) in
         let sorted : List Decided = sort_lines (lines s H) in
-        let rise : Rises sorted = lines_rise s v H [] g in
-        let again : sorted ≡ sort_lines sorted = sym (rising_sorted sorted rise) in
-        let same : serial_run w (map (λ (l : Decided). l.number.id) sorted) ≡ record { runs = map ran sorted; rows = in_key_order (last_rows s w.load.rows sorted) }
+        let same : serial_run w (map (λ (l : Decided). l.number.id) sorted) ≡ record { runs = map ran sorted; rows = last_rows s w.load.rows sorted }
         = serial_listed c w (distinct_rows w.load (and_parts _ _ (and_parts _ _ valid).0).0) sorted (runs_same s v H g) (rows_same s v H g) in
         subst (IsSerial w) (sym (outcome_is H)) (record {
-          rising = subst Rises again rise;
-          same = subst (λ (ls : List Decided). serial_run w (map (λ (l : Decided). l.number.id) ls) ≡ record { runs = map ran ls; rows = in_key_order (last_rows s w.load.rows sorted) }) again same;
-          all = λ x i. subst (λ (z : Outcome). IsDecided z x ⊎ IsGivenUp z x) (outcome_is H) (all x i);
-          not_both = never_both s v H [] g;
+          rising = lines_rise s v H [] g;
+          same = same;
+          whole = each_once s v H g (λ x i. subst (λ (z : Outcome). IsDecided z x ⊎ IsGivenUp z x) (outcome_is H) (all x i));
         })
+
+    pub in_order : (H : List Entry) (flight : List Mail) → IsRun c w H flight → InReportOrder (outcome c w H)
+    in_order H flight r = subst InReportOrder (sym (outcome_is H)) (voting_order c w H (sort_lines (lines s H)) (lines_rise s v H flight (run_good s v lim H flight (voting_run H flight r))))
+
+    pub told : (H : List Entry) → IsQuiet c w H → IsTold s H (outcome c w H)
+    told H r =
+        let g = run_good s v lim H [] (voting_run H [] r) in
+        subst (IsTold s H) (sym (outcome_is H)) (record { decided = decided_told s v H g; given_up = given_up_told s v H g })
 
     pub rows : IsValid w → (H : List Entry) → IsQuiet c w H → (key : Key) → node_rows s (partition_of key c.parts) (heard (partition_of key c.parts) H) key ≡ row_of (outcome c w H).rows key
     rows valid H r key =

@@ -4,3 +4,5 @@ pub mod SerialRuns
 pub mod SerialOutcomes
 pub mod Nodes
 pub mod OwnRows
+pub mod EachOnce
+pub mod Told

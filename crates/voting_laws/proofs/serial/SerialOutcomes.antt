@@ -178,25 +178,28 @@ module _ (s : Setting) (v : Valid s) (H : List Entry) (flight : List Mail) (g : 
       let q = told_some who (at_home s H who) (started_ids s (home s who.txn) who (at_home s H who) (g.fit (home s who.txn)) b.0) in
       undone_aborted s (home s who.txn) who q.0 (at_home s H who) (g.fit (home s who.txn)) (undone_heard who q.0 (at_home s H who) (closed_there (undones_for who (at_home s H who)) (told s (at_home s H who) who) q.0 b.1 q.1))
 
+  -- an attempt of a transaction whose last attempt has all its Undone has no Commit
+  pub commit_stays : (who : Attempt) (number : Number) (place : ℕ) → IsIn (Commit who number) (heard place H) → all_undone s H (attempt who.txn s.attempts) ≡ true → ⊥
+  commit_stays who number place commit k =
+      let x : TxnId = who.txn in
+      let dec = (decided s v H flight g who number place commit).0 in
+      let ms : List Msg = at_home s H (attempt x s.attempts) in
+      let low = started_turn s (home s x) who ms (g.fit (home s x)) dec.0.0.0 in
+      let high = turn_bound s (home s x) who ms v.attempts (g.fit (home s x)) dec.0.0.0 in
+      let ab = all_undone_aborted (attempt x s.attempts) k in
+      ⊎_elim
+      (λ (t : (eqb who.turn s.attempts ≡ true) × (who.turn ≡ s.attempts)). not_both s ms (attempt x s.attempts) number ab (subst (λ n. Decides s ms (attempt x n) (Commit (attempt x n) number)) t.1 dec))
+      (λ (t : (eqb who.turn s.attempts ≡ false) × (who.turn ≢ s.attempts)).
+      not_both s ms who number
+      (aborted_before s (home s x) x who.turn s.attempts ms (g.fit (home s x)) low (omega (arith, t.1, high)) (and_parts (started_for (attempt x s.attempts) ms) (all_closed (undones_for (attempt x s.attempts) ms) (told s ms (attempt x s.attempts))) k).0) dec)
+      (eqb_tells who.turn s.attempts)
+
   -- no transaction is both decided and given up
   pub never_both : (x : TxnId) → IsDecidedIn (sort_lines (lines s H)) x → IsGivenUpIn (giveups_of s H) x → ⊥
   never_both x d u =
       let f = facts s v H flight g d.0 (sorted_in d.0 (lines s H) d.1) in
-      let dec = (decided s v H flight g f.who d.0.number f.place f.commit).0 in
-      let k = given u in
       let is : f.who.txn ≡ x = sym (ap (λ (z : Line). z.number.id) f.is) ∙ d.2 in
-      let ms : List Msg = at_home s H (attempt x s.attempts) in
-      let as_who : record { txn = x; turn = f.who.turn } ≡ f.who = λ j. record { txn = sym is j; turn = f.who.turn } in
-      let dec' : Decides s ms (record { txn = x; turn = f.who.turn }) (Commit (record { txn = x; turn = f.who.turn }) d.0.number) = subst (λ (z : Attempt). Decides s (heard (home s z.txn) H) z (Commit z d.0.number)) (sym as_who) dec in
-      let low = started_turn s (home s x) (record { txn = x; turn = f.who.turn }) ms (g.fit (home s x)) dec'.0.0.0 in
-      let high = turn_bound s (home s x) (record { txn = x; turn = f.who.turn }) ms v.attempts (g.fit (home s x)) dec'.0.0.0 in
-      let ab = all_undone_aborted (attempt x s.attempts) k in
-      ⊎_elim
-      (λ (t : (eqb f.who.turn s.attempts ≡ true) × (f.who.turn ≡ s.attempts)). not_both s ms (attempt x s.attempts) d.0.number ab (subst (λ n. Decides s ms (attempt x n) (Commit (attempt x n) d.0.number)) t.1 dec'))
-      (λ (t : (eqb f.who.turn s.attempts ≡ false) × (f.who.turn ≢ s.attempts)).
-      not_both s ms (record { txn = x; turn = f.who.turn }) d.0.number
-      (aborted_before s (home s x) x f.who.turn s.attempts ms (g.fit (home s x)) low (omega (arith, t.1, high)) (and_parts (started_for (attempt x s.attempts) ms) (all_closed (undones_for (attempt x s.attempts) ms) (told s ms (attempt x s.attempts))) k).0) dec')
-      (eqb_tells f.who.turn s.attempts)
+      commit_stays f.who d.0.number f.place f.commit (subst (λ z. all_undone s H (attempt z s.attempts) ≡ true) (sym is) (given u))
     where
       given : IsGivenUpIn (giveups_of s H) x → all_undone s H (attempt x s.attempts) ≡ true
       given u =

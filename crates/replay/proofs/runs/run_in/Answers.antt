@@ -7,7 +7,10 @@ use Rattle.server_core.specs.IsSerial.{IsSerial}
 use Rattle.server_core.specs.NodeRows.{rows_of_node}
 use Rattle.server_core.specs.Outcome as outcomes
 use Rattle.server_core.specs.Picks.{picked}
+use Rattle.server_core.specs.ReportOrder.{InReportOrder}
 use Rattle.server_core.specs.Runs.{heard}
+use Rattle.server_core.specs.Setting.{setting}
+use Rattle.server_core.specs.Told.{IsTold}
 use Rattle.server_core.specs.declared.messages.Entry.{Entry}
 use Rattle.server_core.specs.declared.outcomes.Outcome.{Outcome}
 use Rattle.report.specs.Outcomes.{with_rows}
@@ -39,6 +42,8 @@ returns g c =
       quiet = quiet;
       outcome = same;
       serial = subst (λ (o : Outcome). IsSerial work o) (sym same) (law.serial config work H ranges valid quiet);
+      in_order = subst InReportOrder (sym same) (law.in_order config work H ranges valid quiet);
+      told = subst (IsTold (setting config work) H) (sym same) (law.told config work H ranges valid quiet);
       atomic = law.atomic config work H ranges valid quiet;
       named = law.named config work H _ ranges valid quiet;
       ordered = λ is_calvin. same ∙ outcome_is config work is_calvin ranges valid H quiet ∙ ordered_outcome config work is_calvin;

@@ -1,5 +1,5 @@
 -- What is said of any protocol holds of those that vote and of Calvin.
-use Rattle.std.proofs.Common.{ap, ◌∙◌, ⊎_elim}
+use Rattle.std.proofs.Common.{[], ap, ◌∙◌, ⊎_elim}
 use Rattle.deneva_base.specs.Partitions.{partition_of}
 use Rattle.server_core.specs.NodeRows.{rows_under}
 use Rattle.server_core.specs.Runs.{heard}
@@ -43,6 +43,16 @@ returns g = record {
       let o = choice c.protocol v in
       voted.serial c w o.0 o.1 (valid c w k d v) (limits c w k d v) d H run (voted.decided c w o.0 o.1 (valid c w k d v) (limits c w k d v) H (waits c.protocol v) run))
       (λ is. ordered.serial c w is k d H run)
+      (votes_or_not c.protocol);
+  told = λ c w H k d run.
+      ⊎_elim
+      (λ v. let o = choice c.protocol v in voted.told c w o.0 o.1 (valid c w k d v) (limits c w k d v) H run)
+      (λ is. ordered.told c w is k d H run)
+      (votes_or_not c.protocol);
+  in_order = λ c w H k d run.
+      ⊎_elim
+      (λ v. let o = choice c.protocol v in voted.in_order c w o.0 o.1 (valid c w k d v) (limits c w k d v) H [] run)
+      (λ is. ordered.in_report_order c w is k d H run)
       (votes_or_not c.protocol);
   rows = λ c w H key k d run.
       ⊎_elim

@@ -2,7 +2,7 @@
 use Rattle.server_core.proofs.configured.Bridges.{choice}
 use Rattle.server_core.proofs.configured.Limiteds.{limits}
 use Rattle.server_core.proofs.configured.ValidSettings.{naming, waits, valid}
-use Rattle.voting_laws.proofs.Voted.{all_fitting, short, picked_quiet, atomic, all_named, decided, serial, rows}
+use Rattle.voting_laws.proofs.Voted.{all_fitting, short, picked_quiet, atomic, all_named, decided, serial, told, in_order, rows}
 use Rattle.voting_laws.proofs.voting_runs.voting_runs_are_right.Goals as goal
 
 pub returns : goal.returns
@@ -15,5 +15,7 @@ returns g = record {
   serial = λ c w H k d v run.
       let o = choice c.protocol v in
       serial c w o.0 o.1 (valid c w k d v) (limits c w k d v) d H run (decided c w o.0 o.1 (valid c w k d v) (limits c w k d v) H (waits c.protocol v) run);
+  told = λ c w H k d v run. let o = choice c.protocol v in told c w o.0 o.1 (valid c w k d v) (limits c w k d v) H run;
+  in_order = λ c w H flight k d v run. let o = choice c.protocol v in in_order c w o.0 o.1 (valid c w k d v) (limits c w k d v) H flight run;
   rows = λ c w H key k d v run. let o = choice c.protocol v in rows c w o.0 o.1 (valid c w k d v) (limits c w k d v) d H run key;
 }
