@@ -31,10 +31,10 @@ ReadGave before now (Bytes n) buf = (1 ≤ n) × (n ≤ length buf) × Gives bef
 ReadGave before now End buf = Gives before now [] × IsOver now
 ReadGave before now Failed buf = Gives before now []
 
--- the count of faults never falls, and a read fails only where it rose
+-- the count of faults rises at a read that fails, and at no other
 abbrev pub ReadCause : ℕ → ℕ → Got → Type 0
-ReadCause before now (Bytes n) = before ≤ now
-ReadCause before now End = before ≤ now
+ReadCause before now (Bytes n) = now ≡ before
+ReadCause before now End = now ≡ before
 ReadCause before now Failed = (before ≤ now) × Rose before now
 
 -- the count after a read that counts its fault, and nothing else
@@ -59,9 +59,9 @@ abbrev pub WriteTook : Option (List ℕ) → Option (List ℕ) → Put → List 
 WriteTook before now (put.Took n) piece = (1 ≤ n) × (n ≤ length piece) × Grew before now (take n piece)
 WriteTook before now put.Failed piece = Grew before now []
 
--- the count of faults never falls, and a write fails only where it rose
+-- the count of faults rises at a write that fails, and at no other
 abbrev pub WriteCause : ℕ → ℕ → Put → Type 0
-WriteCause before now (put.Took n) = before ≤ now
+WriteCause before now (put.Took n) = now ≡ before
 WriteCause before now put.Failed = (before ≤ now) × Rose before now
 
 -- the count after a write that counts its fault, and nothing else

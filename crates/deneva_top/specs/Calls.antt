@@ -3,6 +3,7 @@ use Rattle.std.specs.Prelude.{◌≡◌, ◌≢◌, ℕ, ◌≤◌, List, [], �
 use Rattle.deneva_io.specs.Streams.{Rose, IsOver}
 use Rattle.txn_program.specs.declared.programs.Workload.{Workload}
 use Rattle.txn_program.specs.Serial.{serial, all_ids}
+use Rattle.txn_program.specs.Valid.{IsValid}
 use Rattle.deneva_top.specs.declared.words.Command.{Command}
 use Rattle.deneva_top.specs.declared.words.Command.TheVariants.{Serial, Replay}
 use Rattle.deneva_top.specs.declared.workload_text.faults.FaultKind.{FaultKind}
@@ -55,9 +56,9 @@ Reports (Replay config schedule) work (Some ran) text = Replays config work sche
 -- what a call answers before it writes: its status, what was run, and its text, where the source told these bytes left and counted these faults, before and after
 pub record Answers (words : List (List ℕ)) (bytes bytes_now : Option (List ℕ)) (faults faults_now : ℕ) (status : ℕ) (run : Option Ran) (text : List ℕ) : Type 0 where
   pub known : status ≤ 4
-  pub report : status ≡ 0 → IsOver bytes_now × ((job : Command) × (work : Workload) × (command_of words ≡ Some job) × InputIs bytes (Ok work) × Reports job work run text)
+  pub report : status ≡ 0 → IsOver bytes_now × (faults_now ≡ faults) × ((job : Command) × (work : Workload) × (command_of words ≡ Some job) × InputIs bytes (Ok work) × IsValid work × Reports job work run text)
   pub no_run : status ≢ 0 → run ≡ None
   pub memory : status ≡ 1 → text ≡ codes "fault,memory\n"
   pub refused : status ≡ 2 → (command_of words ≡ None) × (text ≡ codes "fault,words\n")
-  pub input : status ≡ 3 → IsAsked words × ((f : InputFault) × InputIs bytes (Err f) × IsReadUnless f bytes_now × (text ≡ fault_line f))
+  pub input : status ≡ 3 → IsAsked words × ((f : InputFault) × InputIs bytes (Err f) × IsReadUnless f bytes_now × (faults_now ≡ faults) × (text ≡ fault_line f))
   pub read : status ≡ 4 → IsAsked words × Rose faults faults_now × (text ≡ codes "fault,read\n")

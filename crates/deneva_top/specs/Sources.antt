@@ -37,14 +37,14 @@ IsReadUnless f now = (f ≡ too_long) ⊎ IsOver now
 
 -- each answer of reading at most so many bytes from a source that told these bytes and counted these faults, before and after
 abbrev pub ReadsAll : ℕ → Option (List ℕ) → Option (List ℕ) → ℕ → ℕ → Result (List ℕ) ReadError → Type 0
-ReadsAll most before now faults faults_now (Ok bytes) = Gives before now bytes × IsOver now × (length bytes ≤ most)
+ReadsAll most before now faults faults_now (Ok bytes) = Gives before now bytes × IsOver now × (length bytes ≤ most) × (faults_now ≡ faults)
 ReadsAll most before now faults faults_now (Err NoMemory) = ⊤
-ReadsAll most before now faults faults_now (Err (Fault f)) = (f ≡ too_long) × HasMore before most
+ReadsAll most before now faults faults_now (Err (Fault f)) = (f ≡ too_long) × HasMore before most × (faults_now ≡ faults)
 ReadsAll most before now faults faults_now (Err ReadFault) = Rose faults faults_now
 
 -- each answer of reading a workload from a source
 abbrev pub ReadsInput : Option (List ℕ) → Option (List ℕ) → ℕ → ℕ → Result Workload ReadError → Type 0
-ReadsInput bytes now faults faults_now (Ok work) = InputIs bytes (Ok work) × IsOver now
+ReadsInput bytes now faults faults_now (Ok work) = InputIs bytes (Ok work) × IsOver now × (faults_now ≡ faults)
 ReadsInput bytes now faults faults_now (Err NoMemory) = ⊤
-ReadsInput bytes now faults faults_now (Err (Fault f)) = InputIs bytes (Err f) × IsReadUnless f now
+ReadsInput bytes now faults faults_now (Err (Fault f)) = InputIs bytes (Err f) × IsReadUnless f now × (faults_now ≡ faults)
 ReadsInput bytes now faults faults_now (Err ReadFault) = Rose faults faults_now

@@ -18,7 +18,7 @@ use crate::workload_text::{ReadError, read_workload};
 use deneva_base::{ByteList, IdList, NoMemory, TxnId};
 use deneva_io::{Put, Sink, Source};
 use replay::{Ran, replay};
-use report::{serial_outcome, write_report};
+use report::{serial_outcome, serial_outcomes_are_serial, write_report};
 use std::alloc::Global;
 use txn_program::{ProgramList, Workload};
 
@@ -45,6 +45,7 @@ fn serial_report(alloc: Global, work: &Workload) -> Result<ByteList, NoMemory>
     let order = ids_of(alloc, work)?;
     let run = run_serial(alloc, work, &order)?;
     let outcome = serial_outcome(alloc, run)?;
+    serial_outcomes_are_serial();
     write_report(alloc, &outcome)
 }
 
@@ -192,14 +193,14 @@ pub fn deneva<S: Source, K: Sink>(
 ) -> Ended
     // What each status says, and what was written.
     ensures known { result.status ≤ 5 }
-    ensures report { result.status ≡ 0 → IsOver (S.left source.new) × ((job : Command) × (work : Workload) × (text : List ℕ) × (command_of (map string_bytes words.now) ≡ Some job)
-        × InputIs (S.left source.old) (Ok work) × Reports job work result.run text × Grew (K.taken sink.old) (K.taken sink.new) text) }
+    ensures report { result.status ≡ 0 → IsOver (S.left source.new) × (S.faults source.new ≡ S.faults source.old) × ((job : Command) × (work : Workload) × (text : List ℕ) × (command_of (map string_bytes words.now) ≡ Some job)
+        × InputIs (S.left source.old) (Ok work) × IsValid work × Reports job work result.run text × Grew (K.taken sink.old) (K.taken sink.new) text) }
     ensures no_run { result.status ≢ 0 → result.run ≡ None }
     ensures memory { result.status ≡ 1 → Grew (K.taken sink.old) (K.taken sink.new) (codes "fault,memory\n") }
     ensures words { result.status ≡ 2 → (command_of (map string_bytes words.now) ≡ None)
         × Grew (K.taken sink.old) (K.taken sink.new) (codes "fault,words\n") }
     ensures input { result.status ≡ 3 → IsAsked (map string_bytes words.now)
-        × ((f : InputFault) × InputIs (S.left source.old) (Err f) × IsReadUnless f (S.left source.new) × Grew (K.taken sink.old) (K.taken sink.new) (fault_line f)) }
+        × ((f : InputFault) × InputIs (S.left source.old) (Err f) × IsReadUnless f (S.left source.new) × (S.faults source.new ≡ S.faults source.old) × Grew (K.taken sink.old) (K.taken sink.new) (fault_line f)) }
     ensures read { result.status ≡ 4 → IsAsked (map string_bytes words.now)
         × Rose (S.faults source.old) (S.faults source.new) × Grew (K.taken sink.old) (K.taken sink.new) (codes "fault,read\n") }
     ensures write { result.status ≡ 5 → Rose (K.faults sink.old) (K.faults sink.new)

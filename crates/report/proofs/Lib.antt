@@ -3,6 +3,7 @@ pub mod Counts
 pub mod Finished
 pub mod Gathering
 pub mod Groups
+pub mod InFileOrder
 pub mod Lines
 pub mod Locals
 pub mod NumberOrder

@@ -1,5 +1,6 @@
 //! The whole texts.
 ghost use Rattle.std.specs.Prelude.{◌≡◌, IfOk};
+ghost use Rattle.server_core.specs.ReportOrder.{InReportOrder};
 ghost use Rattle.report.specs.ReportText as spec;
 ghost use Rattle.report.specs.ReportText.{report_text, brief_text};
 
@@ -13,8 +14,9 @@ use std::alloc::Global;
 use txn_program::Verdict;
 
 /// The report of an outcome: its head, the decided transactions with what each read, those given up, the aborted
-/// attempts, the last rows, each in the order that the outcome has them, and `end`.
+/// attempts, the final rows, each in the order of a report, and `end`.
 pub fn write_report(alloc: Global, outcome: &Outcome) -> Result<ByteList, NoMemory>
+    requires { InReportOrder outcome.now }
     ensures { IfOk result (λ text. text ≡ report_text outcome.now) }
 {
     let mut text = ByteList::from_bytes(alloc, b"deneva-report,1")?;

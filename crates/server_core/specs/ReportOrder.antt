@@ -1,27 +1,27 @@
 -- The order in which an outcome lists its lines.
-use Rattle.std.specs.Prelude.{◌≡◌, ◌<◌, ⊤, List, [], ◌∷◌, true, map}
-use Rattle.deneva_base.specs.Keys.{attempt_lt}
-use Rattle.deneva_base.specs.Lists.{IsIn}
+use Rattle.std.specs.Prelude.{◌≡◌, List, [], ◌∷◌, Bool, true, ◌&&◌, map, ltb}
+use Rattle.deneva_base.specs.Keys.{attempt_lt, number_lt}
 use Rattle.deneva_base.specs.Rising.{keys_rise}
-use Rattle.deneva_base.specs.declared.numbers.Attempt.{Attempt}
 use Rattle.deneva_base.specs.declared.numbers.TxnId.{TxnId}
-use Rattle.server_core.specs.IsSerial.{Rises}
 use Rattle.server_core.specs.declared.outcomes.Outcome.{Outcome}
 
--- each id is below all that follow
-abbrev pub IdsRise : List TxnId → Type 0
-IdsRise [] = ⊤
-IdsRise (x ∷ xs) = ((y : TxnId) → IsIn y xs → x.0 < y.0) × IdsRise xs
+-- each element is before the next one, the first of them after x
+abbrev pub rise_from : {A : Type 0} → (A → A → Bool) → A → List A → Bool
+rise_from before x [] = true
+rise_from before x (y ∷ ys) = before x y && rise_from before y ys
 
--- each attempt is before all that follow, by id and then by turn
-abbrev pub AttemptsRise : List Attempt → Type 0
-AttemptsRise [] = ⊤
-AttemptsRise (a ∷ as') = ((b : Attempt) → IsIn b as' → attempt_lt a b ≡ true) × AttemptsRise as'
+-- each element is before the next one
+abbrev pub rise : {A : Type 0} → (A → A → Bool) → List A → Bool
+rise before [] = true
+rise before (x ∷ xs) = rise_from before x xs
+
+abbrev pub id_lt : TxnId → TxnId → Bool
+id_lt x y = ltb x.0 y.0
 
 -- the decided transactions stand by number, the given-up ones by id, the aborted attempts by id and turn, the rows by key,
 -- and none stands twice
 pub record InReportOrder (o : Outcome) : Type 0 where
-  pub decided : Rises o.decided
-  pub giveups : IdsRise (map (λ g. g.id) o.giveups)
-  pub aborts : AttemptsRise (map (λ a. a.who) o.aborts)
+  pub decided : rise number_lt (map (λ l. l.number) o.decided) ≡ true
+  pub giveups : rise id_lt (map (λ g. g.id) o.giveups) ≡ true
+  pub aborts : rise attempt_lt (map (λ a. a.who) o.aborts) ≡ true
   pub rows : keys_rise o.rows ≡ true

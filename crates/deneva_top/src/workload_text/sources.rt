@@ -14,8 +14,8 @@ use txn_program::Workload;
 /// The most bytes that a workload file may have.
 const FILE_LIMIT: usize = 67_108_864;
 
-/// Reads a source to its end. It is `TooLong` where more than `most` bytes came before the end. The bytes that were
-/// read stay taken from the source, whatever the answer.
+/// Reads a source to its end. It is `TooLong` if more than `most` bytes came before the end and no read failed before. The
+/// bytes that were read stay taken from the source, whatever the answer.
 pub fn read_bytes<S: Source>(
     alloc: Global,
     source: &mut S,

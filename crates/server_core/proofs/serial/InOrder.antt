@@ -5,7 +5,8 @@ use Rattle.std.proofs.lemmas.Bool.Decides.{nat_tests}
 use Rattle.std.specs.Ordering.{is_lt}
 use Rattle.std.proofs.lemmas.Bool.{and_parts, and_from}
 use Rattle.std.proofs.lemmas.List.{map-append}
-use Rattle.deneva_base.specs.Keys.{attempt_lt, key_cmp}
+use Rattle.std.specs.Prelude.{⊤}
+use Rattle.deneva_base.specs.Keys.{attempt_lt, key_cmp, number_lt, NumberLt}
 use Rattle.deneva_base.specs.Lists.{IsIn}
 use Rattle.deneva_base.specs.Rising.{keys_rise, rise_after}
 use Rattle.deneva_base.specs.Rows.{row_or_empty, put_all, in_key_order}
@@ -15,7 +16,7 @@ use Rattle.deneva_base.specs.declared.keys.Key.{Key}
 use Rattle.deneva_base.specs.declared.numbers.Attempt.{Attempt}
 use Rattle.deneva_base.specs.declared.numbers.TxnId.{TxnId}
 use Rattle.deneva_base.specs.declared.rows.Keyed.{Keyed}
-use Rattle.deneva_base.proofs.Membership.{in_cases, in_map_from}
+use Rattle.deneva_base.proofs.Membership.{in_cases, in_map_from, number_decides}
 use Rattle.deneva_base.proofs.PutRows.{keys_rise-put_all}
 use Rattle.txn_program.specs.Serial.{all_ids, ids_from}
 use Rattle.txn_program.specs.declared.programs.Program.{Program}
@@ -26,13 +27,50 @@ use Rattle.server_core.specs.Replies.{Ballot, votes_for, started_for, all_voted}
 use Rattle.server_core.specs.Ends.{attempt, at_home, all_undone}
 use Rattle.server_core.specs.IsSerial.{Rises}
 use Rattle.server_core.specs.Outcome.{outcome_with, giveups_of, last_rows, left_by, rows_of}
-use Rattle.server_core.specs.ReportOrder.{IdsRise, AttemptsRise, InReportOrder}
+use Rattle.server_core.specs.ReportOrder.{rise, rise_from, id_lt, InReportOrder}
 use Rattle.server_core.specs.Setting.{Setting, setting, participants}
 use Rattle.server_core.specs.declared.messages.Entry.{Entry}
 use Rattle.server_core.specs.declared.outcomes.AbortLine.{AbortLine}
 use Rattle.server_core.specs.declared.outcomes.Decided.{Decided}
 use Rattle.server_core.specs.declared.outcomes.Giveup.{Giveup}
 use Rattle.server_core.proofs.lists.ListTests.{flat_in}
+
+-- each id is below all that follow
+abbrev pub IdsRise : List TxnId → Type 0
+IdsRise [] = ⊤
+IdsRise (x ∷ xs) = ((y : TxnId) → IsIn y xs → x.0 < y.0) × IdsRise xs
+
+-- each attempt is before all that follow, by id and then by turn
+abbrev pub AttemptsRise : List Attempt → Type 0
+AttemptsRise [] = ⊤
+AttemptsRise (a ∷ as') = ((b : Attempt) → IsIn b as' → attempt_lt a b ≡ true) × AttemptsRise as'
+
+ids_tested : (xs : List TxnId) → IdsRise xs → rise id_lt xs ≡ true
+ids_tested [] r = refl
+ids_tested (x ∷ xs) r = after x xs r.0 r.1
+  where
+    less : (a b : ℕ) → a < b → ltb a b ≡ true
+    less a b h = grind (arith, nat_tests, h)
+
+    after : (x : TxnId) (xs : List TxnId) → ((y : TxnId) → IsIn y xs → x.0 < y.0) → IdsRise xs → rise_from id_lt x xs ≡ true
+    after x [] h r = refl
+    after x (y ∷ ys) h r = and_from _ _ (less x.0 y.0 (h y (inl refl))) (after y ys r.0 r.1)
+
+attempts_tested : (as' : List Attempt) → AttemptsRise as' → rise attempt_lt as' ≡ true
+attempts_tested [] r = refl
+attempts_tested (a ∷ as') r = after a as' r.0 r.1
+  where
+    after : (a : Attempt) (as' : List Attempt) → ((b : Attempt) → IsIn b as' → attempt_lt a b ≡ true) → AttemptsRise as' → rise_from attempt_lt a as' ≡ true
+    after a [] h r = refl
+    after a (b ∷ bs) h r = and_from _ _ (h b (inl refl)) (after b bs r.0 r.1)
+
+pub numbers_tested : (ls : List Decided) → Rises ls → rise number_lt (map (λ (l : Decided). l.number) ls) ≡ true
+numbers_tested [] r = refl
+numbers_tested (l ∷ ls) r = after l ls r.0 r.1
+  where
+    after : (l : Decided) (ls : List Decided) → ((k : Decided) → IsIn k ls → NumberLt l.number k.number) → Rises ls → rise_from number_lt l.number (map (λ (k : Decided). k.number) ls) ≡ true
+    after l [] h r = refl
+    after l (k ∷ ks) h r = and_from _ _ ((number_decides l.number k.number).1 (h k (inl refl))) (after k ks r.0 r.1)
 
 -- ids from n are n and more
 from_low : (n : ℕ) (ps : List Program) (x : TxnId) → IsIn x (ids_from n ps) → n ≤ x.0
@@ -170,7 +208,7 @@ module _ (s : Setting) (H : List Entry) where
           subst (λ z. (is_lt (key_cmp k z) && rise_after z (map (λ (q : Keyed). f q.key) qs)) ≡ true) (sym (own q.key)) (and_from _ _ b.0 (after q.key qs b.1))
 
 -- an outcome whose decided lines rise is in report order
-module _ (c : Config) (w : Workload) (H : List Entry) (ls : List Decided) (rise : Rises ls) where
+module _ (c : Config) (w : Workload) (H : List Entry) (ls : List Decided) (rises : Rises ls) where
   abbrev s : Setting
   s = setting c w
 
@@ -178,7 +216,7 @@ module _ (c : Config) (w : Workload) (H : List Entry) (ls : List Decided) (rise 
   last_rise = rows_rise s H (λ k. record { key = k; row = row_or_empty (rows_of s ls k) }) (λ k. refl) (put_all (in_key_order w.load.rows) (flat_map (left_by s) ls)) (keys_rise-put_all (in_key_order w.load.rows) (flat_map (left_by s) ls) (keys_rise-put_all [] w.load.rows refl))
 
   pub voting_order : InReportOrder (outcome_with c w ls (giveups_of s H) (aborts_of s H))
-  voting_order = record { decided = rise; giveups = giveups_rise s H s.ids (ids_rise w); aborts = aborts_rise s H s.ids (ids_rise w); rows = last_rise }
+  voting_order = record { decided = numbers_tested ls rises; giveups = ids_tested _ (giveups_rise s H s.ids (ids_rise w)); aborts = attempts_tested _ (aborts_rise s H s.ids (ids_rise w)); rows = last_rise }
 
   pub calvin_order : InReportOrder (outcome_with c w ls [] [])
-  calvin_order = record { decided = rise; giveups = tt; aborts = tt; rows = last_rise }
+  calvin_order = record { decided = numbers_tested ls rises; giveups = refl; aborts = refl; rows = last_rise }

@@ -7,7 +7,7 @@ abbrev pub invariant-loop-count : goal.invariant-loop-count
 invariant-loop-count g l =
     record {
       gave : Gives (g.S.Source.left l.initial.source) (g.S.Source.left l.source) l.all;
-      count : g.S.Source.faults l.initial.source ≤ g.S.Source.faults l.source;
+      count : g.S.Source.faults l.source ≡ g.S.Source.faults l.initial.source;
       fits : length l.all ≤ l.most;
       buffer : length l.buffer ≡ 4096;
     }

@@ -24,13 +24,13 @@ told (Some xs) (Some ys) bytes read given over short is =
     rw (same, not_long (length bytes) short) is
 
 parsed : (before now : Option (List ℕ)) (faults faults_now : ℕ) (bytes : List ℕ) (r : Result Workload ReadError)
-    → Gives before now bytes → IsOver now → length bytes ≤ 67108864 → Reads r (workload_of bytes) → ReadsInput before now faults faults_now r
-parsed before now faults faults_now bytes (Ok work) given over short reads = (told before now bytes (Ok work) given over short reads, over)
-parsed before now faults faults_now bytes (Err NoMemory) given over short reads = tt
-parsed before now faults faults_now bytes (Err (Fault f)) given over short reads = (told before now bytes (Err f) given over short reads, inr over)
-parsed before now faults faults_now bytes (Err ReadFault) given over short reads = absurd reads
+    → Gives before now bytes → IsOver now → length bytes ≤ 67108864 → faults_now ≡ faults → Reads r (workload_of bytes) → ReadsInput before now faults faults_now r
+parsed before now faults faults_now bytes (Ok work) given over short same reads = (told before now bytes (Ok work) given over short reads, over, same)
+parsed before now faults faults_now bytes (Err NoMemory) given over short same reads = tt
+parsed before now faults faults_now bytes (Err (Fault f)) given over short same reads = (told before now bytes (Err f) given over short reads, inr over, same)
+parsed before now faults faults_now bytes (Err ReadFault) given over short same reads = absurd reads
 
 pub returns-clause-answer : goal.returns-clause-answer
 returns-clause-answer g c =
     let all = c.in_ok-bytes.ensures.answer in
-    parsed _ _ _ _ c.in_ok-bytes.bytes c.parse_workload.result all.0 all.1 all.2 c.parse_workload.ensures.answer
+    parsed _ _ _ _ c.in_ok-bytes.bytes c.parse_workload.result all.0 all.1 all.2 all.3 c.parse_workload.ensures.answer
