@@ -1,5 +1,6 @@
 //! A node of a voting protocol.
 ghost use Rattle.std.specs.Prelude.{◌≡◌};
+ghost use Rattle.std.proofs.Common.{sym, ◌∙◌};
 ghost use Rattle.voting_laws.proofs.NodeLaws.{mails_fit, runs_end, mails_land, rows_kept_apart};
 ghost use Rattle.node_core.specs.Places.{role_at};
 ghost use Rattle.node_core.specs.Standing.{NodeStands};
@@ -127,8 +128,6 @@ impl<'w, C: Chosen> Handles for Node<'w, C> {
 }
 
 impl<'w, C: Chosen> Server<'w> for Node<'w, C> {
-    const KIND: Protocol = C::KIND;
-
     fn protocol() -> Protocol
         ensures { result ≡ C.KIND }
     {
