@@ -7,7 +7,7 @@ use Rattle.deneva_base.specs.declared.numbers.TxnId.{TxnId}
 use Rattle.txn_program.specs.Serial.{serial, all_ids}
 use Rattle.txn_program.specs.declared.programs.Workload.{Workload}
 use Rattle.txn_program.specs.declared.serial.SerialTxn.{SerialTxn}
-use Rattle.server_core.specs.Outcome.{sort_lines}
+use Rattle.server_core.specs.Lines.{sort_lines}
 use Rattle.server_core.specs.declared.outcomes.Decided.{Decided}
 use Rattle.server_core.specs.declared.outcomes.Giveup.{Giveup}
 use Rattle.server_core.specs.declared.outcomes.Outcome.{Outcome}
