@@ -11,27 +11,33 @@ use Rattle.txn_program.specs.Serial.{all_ids}
 use Rattle.txn_program.specs.Valid.{IsValid}
 use Rattle.txn_program.specs.declared.programs.Workload.{Workload}
 use Rattle.txn_program.proofs.WorkloadLaws.{distinct_loaded}
-use Rattle.server_core.specs.Atomic.{IsFinishedAt, IsAtomic}
+use Rattle.deneva_base.proofs.Membership.{in_map_from}
+use Rattle.server_core.specs.Atomic.{IsAtomic}
+use Rattle.server_core.specs.CalvinAtomic.{IsFinishedAt}
 use Rattle.server_core.specs.Calvin.{says, opening}
 use Rattle.server_core.specs.CalvinProper.{Valid}
 use Rattle.server_core.specs.CalvinSerial.{serial_after, serial_lines}
 use Rattle.server_core.specs.Configs.{IsConfig}
-use Rattle.server_core.specs.Fits.{AllFitting}
+use Rattle.server_core.specs.Family.{Family, family, calvin}
+use Rattle.server_core.specs.Fits.{AllFitting, AllFittingBy}
 use Rattle.server_core.specs.GlobalOrder.{order, number}
-use Rattle.server_core.specs.IsSerial.{IsSerial, Rises, ran}
-use Rattle.server_core.specs.NodeRows.{ordered_rows, rows_under, rows_of_node}
-use Rattle.server_core.specs.CalvinScheduler.{now}
-use Rattle.server_core.specs.Outcome.{outcome, outcome_with, rows_of}
-use Rattle.server_core.specs.Picks.{Progress, deliveries, position, picked, most_ordered, most_under, most_entries}
+use Rattle.server_core.specs.Named.{AllNamed}
+use Rattle.server_core.specs.IsSerial.{IsSerial, IsDecided, Rises, ran}
+use Rattle.server_core.specs.CalvinScheduler.{ordered_rows, now}
+use Rattle.server_core.specs.NodeRows.{rows_of_node}
+use Rattle.server_core.specs.Lines.{sort_lines}
+use Rattle.server_core.specs.Outcome.{outcome, outcome_in, outcome_with, rows_of, last_rows}
+use Rattle.server_core.specs.CalvinLimits.{most_ordered}
+use Rattle.server_core.specs.Picks.{Progress, deliveries, position, picked, most_entries}
 use Rattle.server_core.specs.Runs.{heard, Reaches}
-use Rattle.server_core.specs.Says.{IsRun, IsQuiet, says_under, opening_under}
+use Rattle.server_core.specs.Says.{IsRun, IsQuiet}
 use Rattle.server_core.specs.Setting.{Setting, setting, parts_for}
 use Rattle.server_core.specs.declared.messages.Entry.{Entry}
 use Rattle.server_core.specs.declared.messages.Mail.{Mail}
 use Rattle.server_core.specs.declared.outcomes.Decided.{Decided}
 use Rattle.server_core.specs.declared.outcomes.Outcome.{Outcome}
 use Rattle.server_core.specs.declared.schedules.Schedule.{Schedule}
-use Rattle.server_core.proofs.configured.CalvinBridges.{by_order, ordered_run, fits_of_ordered, entries_ordered, outcome_ordered, atomic_of_ordered}
+use Rattle.server_core.proofs.configured.Families.{family_orders}
 use Rattle.server_core.proofs.configured.CalvinSettings.{valid, forms, limits}
 use Rattle.server_core.proofs.flight.AnyDeliveries.{position_picks}
 use Rattle.calvin_laws.proofs.serial.FinishedOnce.{finished, finished_at}
@@ -57,6 +63,10 @@ use Rattle.calvin_laws.proofs.serial.Settled.{lines_serial, node_rows}
 use Rattle.server_core.proofs.configured.Workloads as workload
 use Rattle.server_core.specs.CalvinRuns as ordered
 
+-- no attempt is aborted
+pub none_named : (c : Config) (w : Workload) → c.protocol ≡ Calvin → (H : List Entry) → AllNamed c w H
+none_named c w is H l i = subst (λ (f : Family). IsIn l (f.aborts (setting c w) H) → f.named (setting c w) H l) (sym (family_orders c.protocol is)) (λ j. absurd j) i
+
 module _ (c : Config) (w : Workload) (is : c.protocol ≡ Calvin) (config : IsConfig c) (good : IsValid w) where
   abbrev s : Setting
   s = setting c w
@@ -64,11 +74,18 @@ module _ (c : Config) (w : Workload) (is : c.protocol ≡ Calvin) (config : IsCo
   v : Valid s
   v = valid c w good config
 
+  kin : family c.protocol ≡ calvin
+  kin = family_orders c.protocol is
+
+  pub ordered_run : (H : List Entry) (flight : List Mail) → IsRun c w H flight → ordered.IsRun s H flight
+  ordered_run H flight r = subst (λ (f : Family). Reaches (f.says s) (f.opening s) H flight) kin r
+
   pub all_fitting : (H : List Entry) (flight : List Mail) → IsRun c w H flight → AllFitting c w H flight
-  all_fitting H flight r = fits_of_ordered c w is H flight (each_fits s (limits c w good config) v (forms c w good) H flight (ordered_run c w is H flight r))
+  all_fitting H flight r =
+      subst (λ (f : Family). AllFittingBy (f.suits s) H flight) (sym kin) (each_fits s (limits c w good config) v (forms c w good) H flight (ordered_run H flight r))
 
   pub short : (H : List Entry) (flight : List Mail) → IsRun c w H flight → length H ≤ most_entries c w
-  short H flight r = subst (λ n. length H ≤ n) (sym (entries_ordered c w is)) (all_most s v H flight (ordered_run c w is H flight r))
+  short H flight r = subst (λ (f : Family). length H ≤ f.most s) (sym kin) (all_most s v H flight (ordered_run H flight r))
 
   -- what any schedule picks is a quiet run
   pub picked_quiet : (schedule : Schedule) → IsQuiet c w (picked c w schedule)
@@ -76,17 +93,17 @@ module _ (c : Config) (w : Workload) (is : c.protocol ≡ Calvin) (config : IsCo
       let pick : ℕ → ℕ → ℕ = position schedule in
       let start : Progress = record { entries = []; flight = opening s } in
       let last : Progress = deliveries (says s) pick 0 (most_ordered s) start in
-      by_order
-      (λ z. Reaches (says_under z s) (opening_under z s) (deliveries (says_under z s) pick 0 (most_under z s) (record { entries = []; flight = opening_under z s })).entries [])
-      c.protocol is
+      subst
+      (λ (f : Family). Reaches (f.says s) (f.opening s) (deliveries (f.says s) pick 0 (f.most s) (record { entries = []; flight = f.opening s })).entries [])
+      (sym kin)
       (subst (λ l. ordered.IsRun s last.entries l) (ends s v pick (position_picks schedule) start refl refl) (schedule_run s v pick 0 (most_ordered s) start refl))
 
   module _ (H : List Entry) (r : IsQuiet c w H) where
     run : ordered.IsRun s H []
-    run = ordered_run c w is H [] r
+    run = ordered_run H [] r
 
     pub atomic : IsAtomic c w H
-    atomic = atomic_of_ordered c w is H (finished s v H run)
+    atomic x i = subst (λ (f : Family). f.whole s H x) (sym kin) (finished s v H run x i)
 
     pub finished_here : (x : TxnId) (p : ℕ) → IsIn x (all_ids w) → IsIn p (parts_for s x) → IsFinishedAt s H x p
     finished_here x p i j = finished_at s x p v H run i j
@@ -96,7 +113,7 @@ module _ (c : Config) (w : Workload) (is : c.protocol ≡ Calvin) (config : IsCo
 
     -- the outcome is that of the transactions one at a time in the global order
     pub outcome_is : outcome c w H ≡ outcome_with c w lines [] []
-    outcome_is = outcome_ordered c w is H ∙ ap (λ ls. outcome_with c w ls [] []) (lines_serial s v H run)
+    outcome_is = ap (λ f. outcome_in f c w H) kin ∙ ap (λ ls. outcome_with c w ls [] []) (lines_serial s v H run)
 
     rise : Rises lines
     rise = lines_rise s v (workload.distinct c w good) (workload.distinct_appends c w good)
@@ -144,7 +161,7 @@ module _ (c : Config) (w : Workload) (is : c.protocol ≡ Calvin) (config : IsCo
         let p : ℕ = partition_of key c.parts in
         let here : ordered_rows s p (heard p H) key ≡ serial_after s s.loaded (order s) key
         = ap (λ b. cond b (now s p (heard p H) key) None) (same_number p) ∙ node_rows s v H run p key refl in
-        by_order (λ z. rows_under z s p (heard p H) key ≡ ordered_rows s p (heard p H) key) c.protocol is refl
+        ap (λ (f : Family). f.rows s p (heard p H) key) kin
         ∙ here
         ∙ rows_are s v (workload.distinct c w good) (workload.distinct_appends c w good) key
         ∙ sym (row_listed c w (distinct_loaded w good) lines replayed last key)

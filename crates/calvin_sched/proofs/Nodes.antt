@@ -4,7 +4,6 @@ use Rattle.std.specs.Prelude.{slice_set, option_map}
 use Rattle.std.specs.List.{flat_map}
 use Rattle.deneva_base.specs.Lists.{IsIn}
 use Rattle.deneva_base.specs.Partitions.{partition_of}
-use Rattle.protocol_rules.specs.Protocols.{chosen}
 use Rattle.deneva_base.specs.declared.config.Protocol.{Protocol}
 use Rattle.deneva_base.specs.declared.keys.Key.{Key}
 use Rattle.deneva_base.specs.declared.numbers.Number.{Number}
@@ -15,15 +14,15 @@ use Rattle.server_core.specs.ActiveList.{newly_taken, past}
 use Rattle.server_core.specs.Calvin.{says, became_ready}
 use Rattle.server_core.specs.CalvinFits.{Suits, AllFit}
 use Rattle.server_core.specs.CalvinProper.{Valid}
-use Rattle.server_core.specs.Fits.{suits_under}
+use Rattle.server_core.specs.Family.{Family}
 use Rattle.server_core.specs.GlobalOrder.{slots, epochs, batch, number}
 use Rattle.server_core.specs.CalvinScheduler.{takes_part, as_far, has_batch, is_finished}
 use Rattle.server_core.specs.Roles.{FitsRole, said_by}
-use Rattle.server_core.specs.Says.{says_under}
 use Rattle.server_core.specs.Setting.{Setting, loaded_at}
 use Rattle.server_core.specs.declared.messages.Msg.{Msg}
 use Rattle.server_core.specs.declared.messages.Msg.TheVariants.{Tick, Batch, Rows, Finished}
 use Rattle.server_core.proofs.configured.CalvinSettings as calvin
+use Rattle.server_core.proofs.configured.Families.{family_orders}
 use Rattle.server_core.proofs.lists.ListTests.{flat_in}
 use Rattle.calvin_laws.proofs.order.Orders.{batch_in}
 use Rattle.std.proofs.lemmas.List.{length-map}
@@ -48,10 +47,10 @@ use Rattle.calvin_sched.proofs.Versions.{version_first}
 -- Under Calvin a message fits by its rules, and the node says what they tell.
 
 pub suits_of : (n : CalvinNode) (ms : List Msg) (f : ℕ) (m : Msg) → CalvinStands n ms → FitsRole (role_of n.place) f m ms → Suits (setting_of n.place) n.place.part f m ms
-suits_of n ms f m stands fits = subst (λ (p : Protocol). suits_under (chosen p) (setting_of n.place) n.place.part f m ms) stands.ordered fits.suits
+suits_of n ms f m stands fits = subst (λ (k : Family). k.suits (setting_of n.place) n.place.part f m ms) (family_orders n.place.config.protocol stands.ordered) fits.suits
 
 pub said_is : (n : CalvinNode) (ms more : List Msg) → CalvinStands n ms → says (setting_of n.place) n.place.part more ≡ said_by (role_of n.place) more
-said_is n ms more stands = sym (ap (λ (p : Protocol). says_under (chosen p) (setting_of n.place) n.place.part more) stands.ordered)
+said_is n ms more stands = sym (ap (λ (k : Family). k.says (setting_of n.place) n.place.part more) (family_orders n.place.config.protocol stands.ordered))
 
 -- A Tick and a Finished leave the node as it was.
 

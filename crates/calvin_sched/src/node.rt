@@ -62,8 +62,6 @@ impl<'w> Handles for CalvinNode<'w> {
 }
 
 impl<'w> Server<'w> for CalvinNode<'w> {
-    const KIND: Protocol = Protocol::Calvin;
-
     fn protocol() -> Protocol
         ensures { result ≡ Calvin }
     {

@@ -1,21 +1,18 @@
 -- What a coordinator may do for a message that fits, and that it stands on after it.
 use Rattle.std.proofs.Common.{◌≡◌, ℕ, suc, ◌+◌, ◌*◌, ◌^◌, ◌<◌, ◌≤◌, List, [], ◌∷◌, length, slice_get, Bool, true, false, cond, not, ◌||◌, ◌&&◌, eqb, ltb, refl, sym, ap, ◌∙◌, subst, ⊎_elim, arith, Option, Some, None}
 use Rattle.std.proofs.Math.Nat.{div-le_self}
-use Rattle.deneva_base.specs.declared.config.Protocol.{Protocol}
-use Rattle.deneva_base.specs.declared.config.Protocol.TheVariants.{NoWait, WaitDie, Timestamp, Mvcc, Maat, Calvin}
 use Rattle.deneva_base.specs.declared.causes.Cause.{Cause}
 use Rattle.deneva_base.specs.declared.causes.Cause.TheVariants.{Held, Younger, Written, ReadLater, EmptyRange, Apart, Trimmed}
 use Rattle.deneva_base.specs.declared.keys.Access.{Access}
 use Rattle.deneva_base.specs.declared.numbers.Attempt.{Attempt}
 use Rattle.deneva_base.specs.declared.numbers.TxnId.{TxnId}
 use Rattle.deneva_base.specs.Keys.{id_eq}
-use Rattle.protocol_rules.specs.Protocols.{chosen}
 use Rattle.txn_program.specs.Placed.{ArePlaced}
 use Rattle.txn_program.specs.Serial.{program_of}
 use Rattle.txn_program.proofs.Placing.{accesses_placed}
-use Rattle.server_core.specs.Configs.{IsVoting}
 use Rattle.server_core.specs.Coordinator.{coordinator, overs, told}
-use Rattle.server_core.specs.Fits.{FitsBy, suits_under}
+use Rattle.server_core.specs.Family.{Family, family}
+use Rattle.server_core.specs.Fits.{FitsBy}
 use Rattle.server_core.specs.Proper.{Valid}
 use Rattle.server_core.specs.Replies.{closes_for, all_closed}
 use Rattle.server_core.specs.Setting.{Setting}
@@ -25,6 +22,7 @@ use Rattle.server_core.specs.VotingFits.{Suits}
 use Rattle.server_core.specs.declared.messages.Msg.{Msg}
 use Rattle.server_core.specs.declared.messages.Msg.TheVariants.{Start, Done, Undone}
 use Rattle.server_core.proofs.counts.Prepares.{slice_none}
+use Rattle.server_core.proofs.configured.Families.{family_votes}
 use Rattle.server_core.proofs.configured.ValidSettings.{valid}
 use Rattle.coord.specs.declared.coord.Coord.{Coord}
 use Rattle.coord.specs.declared.home.Home.{Home}
@@ -37,15 +35,6 @@ use Rattle.coord.specs.States.{State, begun, kept_stamp, first_ask, ask_first}
 use Rattle.coord.proofs.Opens.{id_tells}
 use Rattle.coord.proofs.Starting.{start_follows, start_says, drawn, kept}
 use Rattle.coord.proofs.Turns.{touches, follows_other}
-
--- the kinds of a voting protocol
-voting_suits : (k : Protocol) (s : Setting) (p f : ℕ) (m : Msg) (ms : List Msg) → IsVoting k → suits_under (chosen k) s p f m ms → Suits s p f m ms
-voting_suits NoWait s p f m ms v h = h
-voting_suits WaitDie s p f m ms v h = h
-voting_suits Timestamp s p f m ms v h = h
-voting_suits Mvcc s p f m ms v h = h
-voting_suits Maat s p f m ms v h = h
-voting_suits Calvin s p f m ms v h = absurd (v refl)
 
 -- at most one transaction is over with each message
 overs_few : (s : Setting) (ms : List Msg) → overs s ms ≤ length ms
@@ -86,9 +75,9 @@ module _ (h : Home) (fixed : Bool) (counter' : ℕ) (homes' : List TxnId) (next'
   pub are_placed : (x : TxnId) (t : State) → open' x ≡ Some t → ArePlaced t.accesses
   are_placed x t is = subst ArePlaced (sym (is_current x t is).accesses) (accesses_placed h.work.now.load (program_of h.work.now x))
 
-  module _ (m : Msg) (from : ℕ) (fits : FitsBy (suits_under (chosen h.config.protocol) (setting_at h)) h.part from m ms) where
+  module _ (m : Msg) (from : ℕ) (fits : FitsBy ((family h.config.protocol).suits (setting_at h)) h.part from m ms) where
     pub suits : Suits (setting_at h) h.part from m ms
-    suits = voting_suits h.config.protocol s h.part from m ms co.voting fits.suits
+    suits = subst (λ (f : Family). f.suits s h.part from m ms) (family_votes h.config.protocol co.voting) fits.suits
 
     pub few_stamps : counter' ≤ 2 ^ 49
     few_stamps = omega (arith, co.small, fits.short)
@@ -114,7 +103,7 @@ module _ (h : Home) (fixed : Bool) (counter' : ℕ) (homes' : List TxnId) (next'
     }
 
   -- a Start
-  module _ (who : Attempt) (from : ℕ) (fits : FitsBy (suits_under (chosen h.config.protocol) (setting_at h)) h.part from (Start who) ms) where
+  module _ (who : Attempt) (from : ℕ) (fits : FitsBy ((family h.config.protocol).suits (setting_at h)) h.part from (Start who) ms) where
     abbrev stamp : ℕ
     stamp = cond (eqb who.turn 1 || not fixed) (counter' * h.config.parts + h.part + 1) (kept_stamp (open' who.txn))
 

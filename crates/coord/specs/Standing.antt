@@ -1,7 +1,7 @@
 -- What a coordinator stands for: the messages that it has handled, the newest first.
 use Rattle.std.specs.Prelude.{◌≡◌, ℕ, ◌+◌, ◌^◌, ◌≤◌, List, length, Bool, true, false, Option}
 use Rattle.deneva_base.specs.declared.numbers.TxnId.{TxnId}
-use Rattle.server_core.specs.Configs.{IsVoting}
+use Rattle.protocol_rules.specs.Protocols.{IsVoting}
 use Rattle.server_core.specs.Coordinator.{overs}
 use Rattle.server_core.specs.Roles.{Role}
 use Rattle.server_core.specs.Setting.{homes}

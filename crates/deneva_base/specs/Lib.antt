@@ -4,3 +4,4 @@ pub mod Modes
 pub mod Partitions
 pub mod Rows
 pub mod Rising
+pub mod ProtocolWords

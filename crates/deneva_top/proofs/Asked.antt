@@ -13,7 +13,8 @@ use Rattle.server_core.specs.declared.schedules.Schedule.{Schedule}
 use Rattle.server_core.specs.declared.schedules.Schedule.TheVariants.{Fifo}
 use Rattle.deneva_top.specs.Numbers.{is_number, value_of}
 use Rattle.deneva_top.specs.Options.{Given, read_or, value_at, options_of}
-use Rattle.deneva_top.specs.Words.{number, protocol_of, schedule_of, config_of, replay_of, replay_options, command_of}
+use Rattle.deneva_base.specs.ProtocolWords.{protocol_of}
+use Rattle.deneva_top.specs.Words.{number, schedule_of, config_of, replay_of, replay_options, command_of}
 use Rattle.deneva_top.specs.declared.words.Command.{Command}
 use Rattle.deneva_top.specs.declared.words.Command.TheVariants.{Serial, Replay}
 use Rattle.deneva_top.specs.declared.workload_text.faults.FaultKind.{FaultKind}

@@ -1,14 +1,12 @@
 -- The words of a command line, and the command that they give.
-use Rattle.std.specs.Prelude.{ℕ, ◌==◌, List, [], ◌∷◌, map, length, drop, find, nat_eq, nat_le, if◌then◌else◌, codes, Option, Some, None, option_map, option_and_then}
+use Rattle.std.specs.Prelude.{ℕ, ◌==◌, List, [], ◌∷◌, map, length, drop, nat_eq, nat_le, if◌then◌else◌, codes, Option, Some, None, option_map, option_and_then}
 use Rattle.std.specs.List.{slice_split, starts_with}
 use Rattle.std.specs.Result.{result_ok}
 use Rattle.std.specs.Str.{bytes_eq}
+use Rattle.deneva_base.specs.ProtocolWords.{protocol_of}
 use Rattle.deneva_base.specs.declared.config.Config.{Config}
-use Rattle.deneva_base.specs.declared.config.Protocol.{Protocol}
-use Rattle.deneva_base.specs.declared.config.Protocol.TheVariants.{NoWait, WaitDie, Timestamp, Mvcc, Maat, Calvin}
 use Rattle.server_core.specs.declared.schedules.Schedule.{Schedule}
 use Rattle.server_core.specs.declared.schedules.Schedule.TheVariants.{Fifo, Lifo, Seed, Listed}
-use Rattle.report.specs.ReportText.{protocol_word}
 use Rattle.deneva_top.specs.declared.words.Command.{Command}
 use Rattle.deneva_top.specs.declared.words.Command.TheVariants.{Serial, Replay}
 use Rattle.deneva_top.specs.Numbers.{number_in}
@@ -22,10 +20,6 @@ o >>= f = option_and_then f o
 -- a number between two limits
 abbrev pub number : ℕ → ℕ → List ℕ → Option ℕ
 number low high word = result_ok (number_in low high word)
-
--- the protocol that reports name by this word
-abbrev pub protocol_of : List ℕ → Option Protocol
-protocol_of word = find (λ p. bytes_eq word (protocol_word p)) (NoWait ∷ WaitDie ∷ Timestamp ∷ Mvcc ∷ Maat ∷ Calvin ∷ [])
 
 -- all values, where each is there
 abbrev pub all_of : {A : Type 0} → List (Option A) → Option (List A)

@@ -5,7 +5,7 @@ ghost use Rattle.server_core.specs.declared.schedules.Schedule.TheVariants.{Seed
 ghost use Rattle.deneva_top.specs.Words as spelled;
 
 use crate::numbers::{long_number_within, number_within};
-use deneva_base::{CountList, NoMemory, Protocol};
+use deneva_base::{CountList, NoMemory};
 use server_core::Schedule;
 use std::alloc::Global;
 
@@ -18,21 +18,6 @@ pub fn count_of(word: &str, most: u8) -> Option<u8>
 {
     let count = number_within(word.as_bytes(), 1, u32::from(most)).ok()?;
     Some(count as u8)
-}
-
-/// The protocol of a word, which is the one that reports have for it.
-pub fn protocol_of(word: &str) -> Option<Protocol>
-    ensures { result ≡ spelled.protocol_of word.now }
-{
-    match word {
-        "nowait" => Some(Protocol::NoWait),
-        "waitdie" => Some(Protocol::WaitDie),
-        "timestamp" => Some(Protocol::Timestamp),
-        "mvcc" => Some(Protocol::Mvcc),
-        "maat" => Some(Protocol::Maat),
-        "calvin" => Some(Protocol::Calvin),
-        _ => None,
-    }
 }
 
 /// What follows a prefix.

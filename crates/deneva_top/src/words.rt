@@ -5,8 +5,8 @@ ghost use Rattle.deneva_top.specs.Options.{options_of, read_or, value_at};
 ghost use Rattle.deneva_top.specs.Words as spelled;
 
 use crate::options::Options;
-use crate::values::{count_of, protocol_of, schedule_of};
-use deneva_base::{Config, NoMemory};
+use crate::values::{count_of, schedule_of};
+use deneva_base::{Config, NoMemory, Protocol};
 use server_core::Schedule;
 use std::alloc::Global;
 
@@ -45,7 +45,7 @@ fn count_or(options: &Options, name: &str, most: u8, default: u8) -> Option<u8>
 fn config_of(options: &Options) -> Option<Config>
     ensures { result ≡ spelled.config_of options.now }
 {
-    let protocol = protocol_of(options.value(PROTOCOL)?)?;
+    let protocol = Protocol::of_word(options.value(PROTOCOL)?)?;
     let parts = count_or(options, PARTITIONS, 16, 1)?;
     let attempts = count_or(options, ATTEMPTS, 8, 8)?;
     let limit = count_or(options, LIMIT, 64, 16)?;

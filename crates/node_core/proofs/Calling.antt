@@ -15,11 +15,12 @@ use Rattle.txn_program.specs.Serial.{all_ids}
 use Rattle.server_core.specs.declared.messages.Msg.{Msg}
 use Rattle.server_core.specs.declared.messages.Msg.TheVariants.{Prepare, Commit, Abort}
 use Rattle.server_core.specs.Participant.{calls}
+use Rattle.server_core.specs.Family.{Family}
 use Rattle.server_core.specs.Proper.{Valid}
 use Rattle.server_core.specs.Roles.{FitsRole}
 use Rattle.server_core.specs.Setting.{Setting, rule_at, loaded_at}
 use Rattle.server_core.specs.VotingFits.{Suits}
-use Rattle.server_core.proofs.configured.Bridges.{voting_fit}
+use Rattle.server_core.proofs.configured.Families.{family_votes}
 use Rattle.server_core.proofs.values.Called.{wakers}
 use Rattle.server_core.proofs.configured.ValidSettings.{valid}
 use Rattle.node_core.specs.declared.place.Place.{Place}
@@ -39,7 +40,7 @@ module _ {C : Type 0} (stands : C → Rows → History → Type 0) (rule : Rows 
 
   -- a message that fits suits
   pub suits : (from : ℕ) (ms : List Msg) (m : Msg) → Partakes stands rule a control ms → FitsRole (role_at a) from m ms → Suits s p from m ms
-  suits from ms m k fits = (voting_fit a.config a.work.now k.place.votes p from m ms fits).suits
+  suits from ms m k fits = subst (λ (f : Family). f.suits s p from m ms) (family_votes a.config.protocol k.place.votes) fits.suits
 
   pub prepare_known : (from : ℕ) (ms : List Msg) (who : Attempt) (bound : Bound) (writes appends : List Keyed) → Partakes stands rule a control ms → FitsRole (role_at a) from (Prepare who bound writes appends) ms → IsIn who.txn (all_ids a.work.now)
   prepare_known from ms who bound writes appends k fits =

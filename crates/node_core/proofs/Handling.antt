@@ -15,14 +15,14 @@ use Rattle.deneva_base.specs.Rows.{Rows}
 use Rattle.protocol_rules.specs.Rules.{Rule}
 use Rattle.server_core.specs.Coordinator.{coordinator}
 use Rattle.protocol_rules.specs.Leaving.{rows_left}
-use Rattle.server_core.specs.NodeRows.{rows_under}
+use Rattle.server_core.specs.Family.{Family}
 use Rattle.server_core.specs.Participant.{call_of, calls, participant}
 use Rattle.server_core.specs.Roles.{Role, FitsRole, said_by, rows_of_role}
 use Rattle.server_core.specs.Setting.{Setting, setting, rule_at, loaded_at}
 use Rattle.server_core.specs.declared.messages.Mail.{Mail}
 use Rattle.server_core.specs.declared.messages.Msg.{Msg}
 use Rattle.server_core.specs.declared.messages.Msg.TheVariants.{Ask, Prepare, Commit, Abort}
-use Rattle.server_core.proofs.configured.Bridges.{says_voting, by_choice}
+use Rattle.server_core.proofs.configured.Families.{family_votes}
 use Rattle.coord.specs.declared.coord.Coord.{Coord}
 use Rattle.coord.specs.Standing.{role_of, Coordinates, is_call}
 use Rattle.coord.proofs.Passing.{passes}
@@ -131,9 +131,9 @@ module _ {C : Type 0} (stands : C → Rows → History → Type 0) (rule : Rows 
   pub step_says : (before after : List Mail) (from : ℕ) (ms : List Msg) (m : Msg) → is_call m ≡ false → NodeStands stands rule n ms → fits_at from m ms → (FitsRole (role_of n.coord) from m ms → after ≡ before ++ coordinator (setting (role_of n.coord).config (role_of n.coord).work) (role_of n.coord).part m ms) → after ≡ before ++ said_by (role_at n.place) (m ∷ ms)
   step_says before after from ms m other k fits said =
       let by_coord : after ≡ before ++ coordinator s p m ms = said (subst (λ (r : Role). FitsRole r from m ms) (sym k.role) fits) ∙ ap (λ (r : Role). before ++ coordinator (setting r.config r.work) r.part m ms) k.role in
-      let says : said_by (role_at n.place) (m ∷ ms) ≡ coordinator s p m ms = says_voting n.place.config n.place.work.now k.participant.place.votes p (m ∷ ms) ∙ ap (λ l. coordinator s p m ms ++ l) (not_told ms m other) ∙ append-nil (coordinator s p m ms) in
+      let says : said_by (role_at n.place) (m ∷ ms) ≡ coordinator s p m ms = ap (λ (f : Family). f.says s p (m ∷ ms)) (family_votes n.place.config.protocol k.participant.place.votes) ∙ ap (λ l. coordinator s p m ms ++ l) (not_told ms m other) ∙ append-nil (coordinator s p m ms) in
       by_coord ∙ ap (λ l. before ++ l) (sym says)
 
   -- the rows of its history
   pub rows_are : (ms : List Msg) (key : Key) → NodeStands stands rule n ms → rows_left (loaded_at s p) (calls s p ms) key ≡ rows_of_role (role_at n.place) ms key
-  rows_are ms key k = by_choice (λ o. rows_left (loaded_at s p) (calls s p ms) key ≡ rows_under o s p ms key) n.place.config.protocol k.participant.place.votes (λ o. refl)
+  rows_are ms key k = sym (ap (λ (f : Family). f.rows s p ms key) (family_votes n.place.config.protocol k.participant.place.votes))

@@ -1,7 +1,8 @@
 -- Which node of which run this is.
 use Rattle.std.specs.Prelude.{◌<◌}
 use Rattle.txn_program.specs.Valid.{IsValid}
-use Rattle.server_core.specs.Configs.{IsConfig, IsVoting}
+use Rattle.server_core.specs.Configs.{IsConfig}
+use Rattle.protocol_rules.specs.Protocols.{IsVoting}
 use Rattle.server_core.specs.Roles.{Role}
 use Rattle.server_core.specs.Setting.{Setting, setting}
 use Rattle.node_core.specs.declared.place.Place.{Place}

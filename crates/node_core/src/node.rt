@@ -128,8 +128,6 @@ impl<'w, C: Chosen> Handles for Node<'w, C> {
 }
 
 impl<'w, C: Chosen> Server<'w> for Node<'w, C> {
-    const KIND: Protocol = C::KIND;
-
     fn protocol() -> Protocol
         ensures { result ≡ C.KIND }
     {

@@ -30,3 +30,5 @@ pub mod NoWaitServed
 pub mod WaitDieServed
 pub mod StampsServed
 pub mod MaatServed
+pub mod Served
+pub mod Voting

@@ -26,6 +26,7 @@ use Rattle.protocol_rules.specs.Naming.{NamesRange, Naming}
 use Rattle.protocol_rules.specs.Waits.{WaitsLaw, Nothing}
 use Rattle.protocol_rules.proofs.Sources.{RowOk, sources, grants_row}
 use Rattle.protocol_rules.proofs.NoWaitServed.{latest_ok, latest_under, seen_under, decided_under}
+use Rattle.protocol_rules.specs.Served.{Served}
 
 module _ (span : ℕ) where
   pub lawful : Lawful (maat span)
@@ -99,3 +100,6 @@ module _ (span : ℕ) where
         where
           over : (n k : ℕ) → leb n k ≡ false → k < n
           over n k e = grind (arith, nat_tests, e)
+
+  pub served : span < 8192 → Served (maat span)
+  served few = record { lawful = lawful; naming = naming; waits = waits; span = span + 1; short = omega (arith, few); grows = grows }

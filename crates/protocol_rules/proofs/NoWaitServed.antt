@@ -26,6 +26,7 @@ use Rattle.protocol_rules.specs.Growth.{AnswerUnder, HistoryUnder, Grows}
 use Rattle.protocol_rules.specs.Naming.{NamesKey, Naming}
 use Rattle.protocol_rules.specs.Waits.{WaitsLaw, Nothing}
 use Rattle.protocol_rules.proofs.Sources.{RowOk, version_ok, sources, grants_row}
+use Rattle.protocol_rules.specs.Served.{Served}
 
 -- the latest is a version
 pub latest_ok : (loaded : Rows) (h h' : History) (key : Key) (mode : Mode) → Sound loaded h' → ((y : Yea) → IsIn y (yeas h') → IsIn y (yeas h)) → (row : Row) → loaded key ≡ Some row → RowOk loaded h key mode (seen mode (latest loaded h' key)).row
@@ -122,3 +123,6 @@ grows = record {
 
 pub waits_law : WaitsLaw no_wait
 waits_law = Nothing no_wait_waits
+
+pub served : Served no_wait
+served = record { lawful = lawful; naming = naming; waits = waits_law; span = 1; short = omega arith; grows = grows }

@@ -40,6 +40,7 @@ use Rattle.protocol_rules.proofs.NoWaitServed.{seen_under}
 use Rattle.protocol_rules.proofs.WaitDieServed.{asked_under}
 use Rattle.protocol_rules.proofs.Timestamps as T
 use Rattle.protocol_rules.proofs.Mvccs as M
+use Rattle.protocol_rules.specs.Served.{Served}
 
 -- the version below a stamp has the number of a commit
 written_under : (b : ℕ) (h : History) (key : Key) (v : Version) → HistoryUnder b h → IsIn v (written h key) → v.number.n ≤ b
@@ -203,3 +204,9 @@ module _ (keep : ℕ) where
     commit = λ loaded h b who number o u m l. woken_under loaded (writer_between loaded (Commit who number [] ∷ h)) b h (Commit who number [] ∷ h) who (l, u);
     abort = λ loaded h b who o u m. woken_under loaded (writer_between loaded (Abort who [] ∷ h)) b h (Abort who [] ∷ h) who u;
   }
+
+pub timestamp_served : Served timestamp
+timestamp_served = record { lawful = timestamp_lawful; naming = timestamp_naming; waits = timestamp_waits; span = 0; short = omega arith; grows = timestamp_grows }
+
+pub mvcc_served : (keep : ℕ) → Served (mvcc keep)
+mvcc_served keep = record { lawful = mvcc_lawful keep; naming = mvcc_naming keep; waits = mvcc_waits keep; span = 0; short = omega arith; grows = mvcc_grows keep }

@@ -29,6 +29,7 @@ use Rattle.protocol_rules.specs.Naming.{NamesKey, Naming}
 use Rattle.protocol_rules.specs.Waits.{WaitsLaw, ForYounger}
 use Rattle.protocol_rules.proofs.Sources.{RowOk, sources, grants_row}
 use Rattle.protocol_rules.proofs.NoWaitServed.{latest_ok, latest_under, seen_under, decided_under, floor_under}
+use Rattle.protocol_rules.specs.Served.{Served}
 
 -- stamps that were asked with
 pub asked_under : (b : ℕ) (h : History) (a : Asked) → HistoryUnder b h → IsIn a (asks h) → a.stamp ≤ b
@@ -121,3 +122,6 @@ grows = record {
 
 pub waits_law : WaitsLaw wait_die
 waits_law = ForYounger wait_die_waits
+
+pub served : Served wait_die
+served = record { lawful = lawful; naming = naming; waits = waits_law; span = 1; short = omega arith; grows = grows }

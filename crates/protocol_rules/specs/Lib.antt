@@ -19,5 +19,6 @@ pub mod Maat
 pub mod Lawful
 pub mod Growth
 pub mod Naming
+pub mod Served
 pub mod Protocols
 pub mod Leaving

@@ -1,5 +1,5 @@
 -- Which rule answers under which protocol.
-use Rattle.std.specs.Prelude.{ℕ, Bool, true, false, Option, Some, None}
+use Rattle.std.specs.Prelude.{◌≢◌, ℕ, Bool, true, false, Option, Some, None}
 use Rattle.deneva_base.specs.declared.config.Protocol.{Protocol}
 use Rattle.deneva_base.specs.declared.config.Protocol.TheVariants.{NoWait, WaitDie, Timestamp, Mvcc, Maat, Calvin}
 use Rattle.deneva_base.specs.Rows.{Rows}
@@ -32,3 +32,7 @@ chosen Timestamp = Some (record { fixed = false; rule = timestamp })
 chosen Mvcc = Some (record { fixed = false; rule = mvcc kept_versions })
 chosen Maat = Some (record { fixed = true; rule = maat window_span })
 chosen Calvin = None
+
+-- its participants vote on each transaction, where Calvin fixes an order instead
+abbrev pub IsVoting : Protocol → Type 0
+IsVoting p = p ≢ Calvin

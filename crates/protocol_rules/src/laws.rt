@@ -1,5 +1,5 @@
 //! Laws of the rules, each of every history whose calls met their conditions and were answered by the rule.
-ghost use Rattle.std.specs.Prelude.{◌≡◌, ◌+◌, ℕ, ◌∷◌, [], false, true};
+ghost use Rattle.std.specs.Prelude.{◌≡◌, ◌⊎◌, ◌+◌, ℕ, ◌∷◌, [], false, true, Some};
 ghost use Rattle.std.specs.List.{list_any};
 ghost use Rattle.deneva_base.specs.Lists.{IsIn};
 ghost use Rattle.deneva_base.specs.Rows.{Rows};
@@ -18,6 +18,10 @@ ghost use Rattle.protocol_rules.specs.Maat.{maat};
 ghost use Rattle.protocol_rules.specs.Lawful.{Lawful};
 ghost use Rattle.protocol_rules.specs.Growth.{Grows};
 ghost use Rattle.protocol_rules.specs.Naming.{Naming};
+ghost use Rattle.protocol_rules.specs.Served.{Served};
+ghost use Rattle.protocol_rules.specs.Protocols.{Chosen, IsVoting, chosen};
+ghost use Rattle.deneva_base.specs.declared.config.Protocol.{Protocol};
+ghost use Rattle.deneva_base.specs.declared.config.Protocol.TheVariants.{Calvin};
 ghost use Rattle.deneva_base.specs.declared.keys.Key.{Key};
 ghost use Rattle.deneva_base.specs.declared.numbers.Attempt.{Attempt};
 ghost use Rattle.deneva_base.specs.declared.numbers.Number.{Number};
@@ -82,4 +86,12 @@ pub fn rules_serve()
     ensures timestamp { Lawful timestamp × Naming timestamp × Grows timestamp 0 × WaitsLaw timestamp }
     ensures mvcc { (keep : ℕ) → Lawful (mvcc keep) × Naming (mvcc keep) × Grows (mvcc keep) 0 × WaitsLaw (mvcc keep) }
     ensures maat { (span : ℕ) → Lawful (maat span) × Naming (maat span) × Grows (maat span) (span + 1) × WaitsLaw (maat span) }
+{}
+
+/// Each protocol votes or is Calvin. A protocol that votes chooses a rule, and the rule that a protocol chooses meets all
+/// that the laws of runs ask of one.
+pub fn protocols_are_served()
+    ensures votes { (p : Protocol) → IsVoting p ⊎ (p ≡ Calvin) }
+    ensures chooses { (p : Protocol) → IsVoting p → (o : Chosen) × (chosen p ≡ Some o) }
+    ensures served { (p : Protocol) (o : Chosen) → chosen p ≡ Some o → Served o.rule }
 {}

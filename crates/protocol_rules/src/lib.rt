@@ -4,4 +4,7 @@
 
 mod laws;
 
-pub use laws::{maat_laws, mvcc_laws, no_wait_laws, rules_serve, timestamp_laws, wait_die_laws};
+pub use laws::{
+    maat_laws, mvcc_laws, no_wait_laws, protocols_are_served, rules_serve, timestamp_laws,
+    wait_die_laws,
+};

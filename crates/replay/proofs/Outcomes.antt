@@ -1,7 +1,6 @@
 -- The rows of an outcome.
-use Rattle.std.proofs.Common.{◌≡◌, true, List, [], map, Option, Some, None, refl, sym, ap, ◌∙◌, subst}
+use Rattle.std.proofs.Common.{◌≡◌, true, List, [], map, refl, sym, ap, ◌∙◌, subst}
 use Rattle.std.specs.List.{flat_map}
-use Rattle.protocol_rules.specs.Protocols.{Chosen, chosen}
 use Rattle.deneva_base.specs.Rising.{keys_rise}
 use Rattle.deneva_base.specs.Rows.{row_of, row_or_empty, put_all, in_key_order}
 use Rattle.deneva_base.specs.declared.config.Config.{Config}
@@ -13,7 +12,7 @@ use Rattle.deneva_base.proofs.PutRows.{keys_rise-put_all}
 use Rattle.txn_program.specs.declared.programs.Workload.{Workload}
 use Rattle.server_core.specs.CalvinSerial.{serial_lines}
 use Rattle.server_core.specs.GlobalOrder.{order}
-use Rattle.server_core.specs.Outcome.{outcome, outcome_under, outcome_with, last_rows, left_by, rows_of}
+use Rattle.server_core.specs.Outcome.{outcome, outcome_with, last_rows, left_by, rows_of}
 use Rattle.server_core.specs.Setting.{Setting, setting}
 use Rattle.server_core.specs.declared.messages.Entry.{Entry}
 use Rattle.server_core.specs.declared.outcomes.Decided.{Decided}
@@ -28,11 +27,7 @@ last_rise s loaded ls =
 
 -- an outcome lists its rows in key order
 pub outcome_rises : (c : Config) (w : Workload) (H : List Entry) → keys_rise (outcome c w H).rows ≡ true
-outcome_rises c w H = go (chosen c.protocol)
-  where
-    go : (o : Option Chosen) → keys_rise (outcome_under o c w H).rows ≡ true
-    go (Some o) = last_rise (setting c w) w.load.rows _
-    go None = last_rise (setting c w) w.load.rows _
+outcome_rises c w H = last_rise (setting c w) w.load.rows _
 
 -- so rows in key order that agree with it at each key are its rows
 pub outcome_rows : (c : Config) (w : Workload) (H : List Entry) (rows : List Keyed) → keys_rise rows ≡ true → ((key : Key) → row_of rows key ≡ row_of (outcome c w H).rows key) → rows ≡ (outcome c w H).rows

@@ -11,7 +11,7 @@ use Rattle.deneva_base.specs.declared.numbers.Number.{Number}
 use Rattle.deneva_base.specs.declared.numbers.TxnId.{TxnId}
 use Rattle.deneva_base.proofs.Membership.{number_decides}
 use Rattle.server_core.specs.IsSerial.{Rises}
-use Rattle.server_core.specs.Outcome.{put_line, sort_lines}
+use Rattle.server_core.specs.Lines.{put_line, sort_lines}
 use Rattle.server_core.specs.declared.outcomes.Decided.{Decided}
 use Rattle.server_core.proofs.serial.SortedLines.{in_sorted}
 

@@ -15,10 +15,10 @@ use Rattle.server_core.specs.Outcome.{outcome}
 use Rattle.server_core.specs.Says.{IsQuiet}
 use Rattle.server_core.specs.declared.messages.Entry.{Entry}
 use Rattle.server_core.specs.declared.outcomes.Outcome.{Outcome}
-use Rattle.server_core.proofs.configured.Bridges.{choice, votes_or_not}
+use Rattle.protocol_rules.proofs.Voting.{choice, votes_or_not}
 use Rattle.calvin_laws.proofs.Configured as ordered
 use Rattle.server_core.proofs.configured.Limiteds.{limits}
-use Rattle.server_core.proofs.configured.ValidSettings.{waits, valid}
+use Rattle.server_core.proofs.configured.ValidSettings.{rule_served, valid}
 use Rattle.voting_laws.proofs.Voted as voted
 use Rattle.report.specs.Outcomes.{IsOver, IsLeastOpen}
 use Rattle.report.specs.Stories.{Tells}
@@ -30,7 +30,7 @@ use Rattle.report.proofs.Places.{id_at}
 pub all_over : (c : Config) (w : Workload) (H : List Entry) → IsConfig c → IsValid w → IsQuiet c w H → (x : TxnId) → IsIn x (all_ids w) → IsOver (outcome c w H) x
 all_over c w H config d run =
     ⊎_elim
-    (λ v. let o = choice c.protocol v in voted.decided c w o.0 o.1 (valid c w config d v) (limits c w config d v) H (waits c.protocol v) run)
+    (λ v. let o = choice c.protocol v in voted.decided c w o.0 o.1 (valid c w config d v) (limits c w config d v) H (rule_served c.protocol v).waits run)
     (λ is. (ordered.serial c w is config d H run).all)
     (votes_or_not c.protocol)
 

@@ -18,12 +18,13 @@ use Rattle.server_core.specs.CalvinSerial.{RisingIds}
 use Rattle.server_core.specs.Configs.{IsConfig}
 use Rattle.server_core.specs.GlobalOrder.{order, number}
 use Rattle.server_core.specs.IsSerial.{Rises}
-use Rattle.server_core.specs.Outcome.{sort_lines, ordered_lines, outcome}
+use Rattle.server_core.specs.Lines.{sort_lines, ordered_lines}
+use Rattle.server_core.specs.Outcome.{outcome, outcome_in}
 use Rattle.server_core.specs.Setting.{Setting, setting}
 use Rattle.server_core.specs.declared.messages.Entry.{Entry}
 use Rattle.server_core.specs.declared.outcomes.Decided.{Decided}
 use Rattle.server_core.specs.declared.outcomes.Outcome.{Outcome}
-use Rattle.server_core.proofs.configured.CalvinBridges.{outcome_ordered}
+use Rattle.server_core.proofs.configured.Families.{family_orders}
 use Rattle.server_core.proofs.configured.CalvinSettings.{valid}
 use Rattle.calvin_laws.proofs.order.OrderNumbers.{rising}
 use Rattle.calvin_laws.proofs.order.Orders.{order_in, in_order}
@@ -84,7 +85,7 @@ module _ (c : Config) (w : Workload) (config : IsConfig c) (v : IsValid w) (H : 
   module _ (is : c.protocol ≡ Calvin) (x : TxnId) where
     pub finished_there : IsIn x (all_ids w) → is_finished s H x ≡ true → IsOver (outcome c w H) x
     finished_there i e =
-        subst (λ (o : Outcome). IsOver o x) (sym (outcome_ordered c w is H))
+        subst (λ (o : Outcome). IsOver o x) (sym (ap (λ f. outcome_in f c w H) (family_orders c.protocol is)))
         (inl (finished_line s H x, line_there s H (order s) x (in_order s (valid c w v config) x i) e, refl))
 
     pub finished_here : IsOver (outcome c w H) x → is_finished s H x ≡ true
@@ -95,4 +96,4 @@ module _ (c : Config) (w : Workload) (config : IsConfig c) (v : IsValid w) (H : 
         let same : f.0 ≡ x = sym (ap (λ (z : Decided). z.number.id) f.3) ∙ l.2 in
         subst (λ y. is_finished s H y ≡ true) same f.2)
         (λ g. absurd g.1)
-        (subst (λ (o : Outcome). IsOver o x) (outcome_ordered c w is H) d)
+        (subst (λ (o : Outcome). IsOver o x) (ap (λ f. outcome_in f c w H) (family_orders c.protocol is)) d)

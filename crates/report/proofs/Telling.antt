@@ -10,7 +10,7 @@ use Rattle.deneva_base.specs.declared.rows.Keyed.{Keyed}
 use Rattle.server_core.specs.Coordinator.{asked_parts, told, reads_of}
 use Rattle.server_core.specs.Ends as ends
 use Rattle.server_core.specs.Ends.{attempt, at_home, dones_for, undones_for}
-use Rattle.server_core.specs.Outcome.{committed_n, decided_as, line_of}
+use Rattle.server_core.specs.Lines.{committed_n, decided_as, line_of}
 use Rattle.server_core.specs.Replies.{Reply, grants_for, refused_for, started_for, all_closed}
 use Rattle.server_core.specs.Runs.{heard}
 use Rattle.server_core.specs.Setting.{home, parts_for, take_first}

@@ -11,17 +11,18 @@ use Rattle.deneva_base.specs.declared.numbers.TxnId.{TxnId}
 use Rattle.txn_program.specs.Serial.{ids_from, all_ids}
 use Rattle.txn_program.specs.declared.programs.Program.{Program}
 use Rattle.txn_program.specs.declared.programs.Workload.{Workload}
-use Rattle.server_core.specs.Configs.{IsVoting}
+use Rattle.protocol_rules.specs.Protocols.{IsVoting}
 use Rattle.server_core.specs.Ends.{attempt, done_turn, all_undone}
 use Rattle.server_core.specs.IsSerial.{IsDecided, IsGivenUp}
-use Rattle.server_core.specs.Outcome.{line_of, line_if, lines, sort_lines, giveups_of, outcome, outcome_with}
+use Rattle.server_core.specs.Lines.{line_of, line_if, lines, sort_lines, giveups_of}
+use Rattle.server_core.specs.Outcome.{outcome, outcome_in, outcome_with}
 use Rattle.server_core.specs.Aborts.{aborts_of}
 use Rattle.server_core.specs.Setting.{Setting, setting}
 use Rattle.server_core.specs.declared.messages.Entry.{Entry}
 use Rattle.server_core.specs.declared.outcomes.Decided.{Decided}
 use Rattle.server_core.specs.declared.outcomes.Giveup.{Giveup}
 use Rattle.server_core.specs.declared.outcomes.Outcome.{Outcome}
-use Rattle.server_core.proofs.configured.Bridges.{outcome_voting}
+use Rattle.server_core.proofs.configured.Families.{family_votes}
 use Rattle.server_core.proofs.values.Closed.{flat_in, in_flat}
 use Rattle.voting_laws.proofs.serial.Lines.{done_turn_is}
 use Rattle.server_core.proofs.serial.SortedLines.{in_sorted}
@@ -70,10 +71,10 @@ module _ (c : Config) (w : Workload) (votes : IsVoting c.protocol) (H : List Ent
   s = setting c w
 
   at_outcome : (P : Outcome → Type 0) → P (outcome_with c w (sort_lines (lines s H)) (giveups_of s H) (aborts_of s H)) → P (outcome c w H)
-  at_outcome P = subst P (sym (outcome_voting c w votes H))
+  at_outcome P = subst P (sym (ap (λ f. outcome_in f c w H) (family_votes c.protocol votes)))
 
   from_outcome : (P : Outcome → Type 0) → P (outcome c w H) → P (outcome_with c w (sort_lines (lines s H)) (giveups_of s H) (aborts_of s H))
-  from_outcome P = subst P (outcome_voting c w votes H)
+  from_outcome P = subst P (ap (λ f. outcome_in f c w H) (family_votes c.protocol votes))
 
   decided_there : IsIn x (all_ids w) → (who : Attempt) → done_turn s H x s.attempts ≡ Some who → IsDecided (outcome c w H) x
   decided_there i who e =

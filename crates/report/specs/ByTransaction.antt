@@ -2,7 +2,7 @@
 use Rattle.std.specs.Prelude.{List, [], ◌∷◌, cond}
 use Rattle.deneva_base.specs.declared.numbers.TxnId.{TxnId}
 use Rattle.server_core.specs.Ends.{attempt, all_undone, done_turn}
-use Rattle.server_core.specs.Outcome.{line_if}
+use Rattle.server_core.specs.Lines.{line_if}
 use Rattle.server_core.specs.Setting.{Setting}
 use Rattle.server_core.specs.declared.messages.Entry.{Entry}
 use Rattle.server_core.specs.declared.outcomes.Decided.{Decided}

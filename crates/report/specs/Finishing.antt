@@ -9,7 +9,7 @@ use Rattle.deneva_base.specs.declared.rows.Keyed.{Keyed}
 use Rattle.txn_program.specs.Transactions.{reading}
 use Rattle.server_core.specs.GlobalOrder.{index_of, number}
 use Rattle.server_core.specs.CalvinScheduler.{has_finished, rows_from, collected}
-use Rattle.server_core.specs.Outcome.{decided_as}
+use Rattle.server_core.specs.Lines.{decided_as}
 use Rattle.server_core.specs.Runs.{heard}
 use Rattle.server_core.specs.Setting.{Setting, home, homes, parts_for}
 use Rattle.server_core.specs.declared.messages.Entry.{Entry}

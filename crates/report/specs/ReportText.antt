@@ -3,10 +3,9 @@
 use Rattle.std.specs.Prelude.{ℕ, Bool, not, List, [], ◌∷◌, ◌++◌, map, length, codes, decimal, true, false}
 use Rattle.std.specs.Fmt.{signed_decimal}
 use Rattle.std.specs.List.{flat_map, count_by, join_with_byte}
+use Rattle.deneva_base.specs.ProtocolWords.{protocol_word}
 use Rattle.deneva_base.specs.declared.causes.Cause.{Cause}
 use Rattle.deneva_base.specs.declared.causes.Cause.TheVariants.{Held, Younger, Written, ReadLater, EmptyRange, Apart, Trimmed}
-use Rattle.deneva_base.specs.declared.config.Protocol.{Protocol}
-use Rattle.deneva_base.specs.declared.config.Protocol.TheVariants.{NoWait, WaitDie, Timestamp, Mvcc, Maat, Calvin}
 use Rattle.deneva_base.specs.declared.keys.Key.{Key}
 use Rattle.deneva_base.specs.declared.numbers.Attempt.{Attempt}
 use Rattle.deneva_base.specs.declared.rows.Cell.{Cell}
@@ -23,14 +22,6 @@ use Rattle.server_core.specs.declared.outcomes.Outcome.{Outcome}
 use Rattle.server_core.specs.declared.outcomes.RunKind.{RunKind}
 use Rattle.server_core.specs.declared.outcomes.RunKind.TheVariants.{Serial, Under}
 use Rattle.report.specs.Records.{Record, line_of, text_of}
-
-abbrev pub protocol_word : Protocol → List ℕ
-protocol_word NoWait = codes "nowait"
-protocol_word WaitDie = codes "waitdie"
-protocol_word Timestamp = codes "timestamp"
-protocol_word Mvcc = codes "mvcc"
-protocol_word Maat = codes "maat"
-protocol_word Calvin = codes "calvin"
 
 abbrev pub kind_word : RunKind → List ℕ
 kind_word Serial = codes "serial"

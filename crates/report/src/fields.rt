@@ -4,7 +4,7 @@ ghost use Rattle.std.specs.List.{flat_map};
 ghost use Rattle.report.specs.ReportText as spec;
 ghost use Rattle.report.specs.ReportText.{key_text, attempt_text, parts_text};
 
-use deneva_base::{Attempt, ByteList, Key, NoMemory, Protocol};
+use deneva_base::{Attempt, ByteList, Key, NoMemory};
 use itoa::{Buffer, Integer};
 use server_core::RunKind;
 
@@ -79,25 +79,12 @@ pub fn push_parts(text: &mut ByteList, parts: &[u8]) -> Result<(), NoMemory>
     push_number_parts(text, others)
 }
 
-fn protocol_word(protocol: Protocol) -> &'static str
-    ensures { result.now ≡ spec.protocol_word protocol }
-{
-    match protocol {
-        Protocol::NoWait => "nowait",
-        Protocol::WaitDie => "waitdie",
-        Protocol::Timestamp => "timestamp",
-        Protocol::Mvcc => "mvcc",
-        Protocol::Maat => "maat",
-        Protocol::Calvin => "calvin",
-    }
-}
-
 /// The word of how the transactions were run.
 pub fn kind_word(kind: RunKind) -> &'static str
     ensures { result.now ≡ spec.kind_word kind }
 {
     match kind {
         RunKind::Serial => "serial",
-        RunKind::Under(protocol) => protocol_word(protocol),
+        RunKind::Under(protocol) => protocol.word(),
     }
 }

@@ -14,7 +14,7 @@ use Rattle.server_core.specs.Runs.{heard}
 use Rattle.server_core.specs.Says.{IsRun}
 use Rattle.server_core.specs.declared.messages.Entry.{Entry}
 use Rattle.server_core.specs.declared.messages.Mail.{Mail}
-use Rattle.server_core.proofs.configured.Bridges.{votes_or_not}
+use Rattle.protocol_rules.proofs.Voting.{votes_or_not}
 use Rattle.voting_laws.proofs.NodeLaws as voting
 use Rattle.calvin_laws.proofs.NodeLaws as calvin
 

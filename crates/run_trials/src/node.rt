@@ -103,8 +103,6 @@ impl<'w, C: Chosen> Handles for PlainNode<'w, C> {
 }
 
 impl<'w, C: Chosen> Server<'w> for PlainNode<'w, C> {
-    const KIND: Protocol = C::KIND;
-
     fn protocol() -> Protocol
         ensures { result ≡ C.KIND }
     {

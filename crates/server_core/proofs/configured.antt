@@ -2,6 +2,5 @@
 pub mod Workloads
 pub mod ValidSettings
 pub mod Limiteds
-pub mod Bridges
+pub mod Families
 pub mod CalvinSettings
-pub mod CalvinBridges

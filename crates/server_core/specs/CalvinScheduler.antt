@@ -1,5 +1,5 @@
 -- What a node of Calvin knows by its messages, the newest first.
-use Rattle.std.specs.Prelude.{ℕ, zero, suc, List, [], ◌∷◌, map, filter, Bool, false, cond, ◌&&◌, ◌||◌, not, eqb}
+use Rattle.std.specs.Prelude.{ℕ, zero, suc, List, [], ◌∷◌, map, filter, Bool, false, cond, ◌&&◌, ◌||◌, not, eqb, None}
 use Rattle.std.specs.List.{list_any, list_all, flat_map}
 use Rattle.deneva_base.specs.Keys.{key_eq, id_eq}
 use Rattle.deneva_base.specs.Modes.{writes}
@@ -101,3 +101,7 @@ now s p ms = changed (applied s p ms) s.loaded (filter (is_finished s ms) (order
 -- what p reads for x
 abbrev pub rows_at : Setting → ℕ → List Msg → TxnId → List Keyed
 rows_at s p ms x = map (λ a. record { key = a.key; row = row_or_empty (now s p ms a.key) }) (reading_at s p x)
+
+-- those of the keys of p
+abbrev pub ordered_rows : Setting → ℕ → List Msg → Rows
+ordered_rows s p ms key = cond (eqb (partition_of key s.parts) p) (now s p ms key) None

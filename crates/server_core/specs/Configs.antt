@@ -1,8 +1,6 @@
--- The ranges of a configuration, and which protocols vote.
-use Rattle.std.specs.Prelude.{◌≢◌, ◌≤◌}
+-- The ranges of a configuration.
+use Rattle.std.specs.Prelude.{◌≤◌}
 use Rattle.deneva_base.specs.declared.config.Config.{Config}
-use Rattle.deneva_base.specs.declared.config.Protocol.{Protocol}
-use Rattle.deneva_base.specs.declared.config.Protocol.TheVariants.{Calvin}
 
 -- 1 to 16 partitions, 1 to 8 attempts, and 1 to 64 home transactions that a node has open
 pub record IsConfig (c : Config) : Type 0 where
@@ -12,7 +10,3 @@ pub record IsConfig (c : Config) : Type 0 where
   pub few_attempts : c.attempts ≤ 8
   pub some_open : 1 ≤ c.limit
   pub few_open : c.limit ≤ 64
-
--- its participants vote on each transaction, where Calvin fixes an order instead
-abbrev pub IsVoting : Protocol → Type 0
-IsVoting p = p ≢ Calvin

@@ -1,17 +1,15 @@
 -- The messages that fit what a node has handled.
-use Rattle.std.specs.Prelude.{ℕ, ◌^◌, ◌<◌, List, length, Option, Some, None}
+use Rattle.std.specs.Prelude.{ℕ, ◌^◌, ◌<◌, List, length}
 use Rattle.deneva_base.specs.Lists.{IsIn}
-use Rattle.protocol_rules.specs.Protocols.{Chosen, chosen}
 use Rattle.deneva_base.specs.declared.config.Config.{Config}
 use Rattle.txn_program.specs.declared.programs.Workload.{Workload}
+use Rattle.server_core.specs.Family.{family}
 use Rattle.server_core.specs.Runs.{heard}
-use Rattle.server_core.specs.Setting.{Setting, setting}
+use Rattle.server_core.specs.Setting.{setting}
 use Rattle.server_core.specs.Small.{SmallMsg}
 use Rattle.server_core.specs.declared.messages.Entry.{Entry}
 use Rattle.server_core.specs.declared.messages.Mail.{Mail}
 use Rattle.server_core.specs.declared.messages.Msg.{Msg}
-use Rattle.server_core.specs.CalvinFits as calvin
-use Rattle.server_core.specs.VotingFits as voting
 
 -- a message to p from f fits the list ms that p has handled: ms is short, the message's numbers are small, and it suits
 -- ms by its kind
@@ -24,13 +22,8 @@ pub record FitsBy (by_kind : ℕ → ℕ → Msg → List Msg → Type 0) (p f :
 abbrev pub AllFittingBy : (ℕ → ℕ → Msg → List Msg → Type 0) → List Entry → List Mail → Type 0
 AllFittingBy suits H flight = (x : Mail) → IsIn x flight → FitsBy suits x.to x.from x.msg (heard x.to H)
 
--- by its kind: one of a voting protocol, or one of Calvin
-abbrev pub suits_under : Option Chosen → Setting → ℕ → ℕ → Msg → List Msg → Type 0
-suits_under (Some o) s = voting.Suits s
-suits_under None s = calvin.Suits s
-
 abbrev pub Fits : Config → Workload → ℕ → ℕ → Msg → List Msg → Type 0
-Fits c w = FitsBy (suits_under (chosen c.protocol) (setting c w))
+Fits c w = FitsBy ((family c.protocol).suits (setting c w))
 
 abbrev pub AllFitting : Config → Workload → List Entry → List Mail → Type 0
-AllFitting c w = AllFittingBy (suits_under (chosen c.protocol) (setting c w))
+AllFitting c w = AllFittingBy ((family c.protocol).suits (setting c w))

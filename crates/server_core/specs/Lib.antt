@@ -22,6 +22,9 @@ pub mod Limits
 pub mod Proper
 pub mod Picks
 pub mod Aborts
+pub mod Lines
+pub mod CalvinAtomic
+pub mod Family
 pub mod Outcome
 pub mod NodeRows
 pub mod IsSerial

@@ -1,5 +1,6 @@
 -- What a participant says on the last of its messages: the answers and wakes of its rule.
 use Rattle.std.specs.Prelude.{ℕ, List, [], ◌∷◌, map}
+use Rattle.deneva_base.specs.Rows.{Rows}
 use Rattle.deneva_base.specs.declared.keys.Key.{Key}
 use Rattle.deneva_base.specs.declared.numbers.Attempt.{Attempt}
 use Rattle.deneva_base.specs.declared.answers.Answer.{Answer}
@@ -8,11 +9,12 @@ use Rattle.deneva_base.specs.declared.answers.Vote.{Vote}
 use Rattle.deneva_base.specs.declared.answers.Vote.TheVariants.{Yes as VotesYes, No as VotesNo}
 use Rattle.deneva_base.specs.declared.answers.Wake.{Wake}
 use Rattle.protocol_rules.specs.History.{Ask as Asked, Prepare as Prepared, Commit as Committed, Abort as Aborted, History}
+use Rattle.protocol_rules.specs.Leaving.{rows_left}
 use Rattle.protocol_rules.specs.Rules.{Rule}
 use Rattle.server_core.specs.declared.messages.Msg.{Msg}
 use Rattle.server_core.specs.declared.messages.Msg.TheVariants.{Ask, Granted, Refused, Prepare, Yes, No, Commit, Abort, Done, Undone}
 use Rattle.server_core.specs.declared.messages.Mail.{Mail}
-use Rattle.server_core.specs.Setting.{Setting, rule_at, home}
+use Rattle.server_core.specs.Setting.{Setting, loaded_at, rule_at, home}
 
 -- the calls that the messages make, each answered by the rule
 abbrev pub call_of : Rule → History → Msg → History
@@ -51,3 +53,7 @@ participant s p (Prepare who bound writes appends) ms = vote_mail s p who ((rule
 participant s p (Commit who number) ms = mail_home s p who (Done who p) ∷ wake_mails s p ((rule_at s p).commit (calls s p ms) who number)
 participant s p (Abort who) ms = mail_home s p who (Undone who p) ∷ wake_mails s p ((rule_at s p).abort (calls s p ms) who)
 participant s p m ms = []
+
+-- the rows that the history of p leaves over those loaded at p
+abbrev pub node_rows : Setting → ℕ → List Msg → Rows
+node_rows s p ms key = rows_left (loaded_at s p) (calls s p ms) key

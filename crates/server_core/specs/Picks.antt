@@ -1,15 +1,13 @@
 -- Runs by a schedule.
-use Rattle.std.specs.Prelude.{ℕ, zero, suc, ◌+◌, ◌*◌, ◌-◌, ◌%◌, ◌<◌, ◌≤◌, List, [], ◌∷◌, ◌++◌, length, slice_get, Option, Some, None}
-use Rattle.protocol_rules.specs.Protocols.{Chosen, chosen}
+use Rattle.std.specs.Prelude.{ℕ, zero, suc, ◌-◌, ◌%◌, ◌<◌, ◌≤◌, List, [], ◌∷◌, ◌++◌, length, slice_get, Option, Some, None}
 use Rattle.deneva_base.specs.declared.config.Config.{Config}
 use Rattle.rand_pcg.specs.Lcg.{advance, increment_of, started}
 use Rattle.rand_pcg.specs.Pcg.{multiplier_64, pcg32}
 use Rattle.txn_program.specs.declared.programs.Workload.{Workload}
-use Rattle.server_core.specs.GlobalOrder.{epochs}
-use Rattle.server_core.specs.Limits.{most_events, sum_of}
+use Rattle.server_core.specs.Family.{family}
 use Rattle.server_core.specs.Runs.{Saying, entry_of, heard}
 use Rattle.server_core.specs.Says.{says, opening_mails}
-use Rattle.server_core.specs.Setting.{Setting, setting, parts_for, take_first, drop_first}
+use Rattle.server_core.specs.Setting.{setting, take_first, drop_first}
 use Rattle.server_core.specs.declared.messages.Entry.{Entry}
 use Rattle.server_core.specs.declared.messages.Mail.{Mail}
 use Rattle.server_core.specs.declared.schedules.Schedule.{Schedule}
@@ -56,17 +54,9 @@ position (Listed numbers) i n = listed (slice_get numbers i) n
 abbrev pub PicksOne : (ℕ → ℕ → ℕ) → Type 0
 PicksOne pick = (i n : ℕ) → 1 ≤ n → pick i n < n
 
--- no run of Calvin has more entries: those of Tick and Batch, and those of Rows and Finished
-abbrev pub most_ordered : Setting → ℕ
-most_ordered s = epochs s * (s.parts + s.parts * s.parts) + sum_of (λ x. let m = length (parts_for s x) in m * m + m) s.ids
-
-abbrev pub most_under : Option Chosen → Setting → ℕ
-most_under (Some o) s = most_events s
-most_under None s = most_ordered s
-
 -- no run has more entries
 abbrev pub most_entries : Config → Workload → ℕ
-most_entries c w = most_under (chosen c.protocol) (setting c w)
+most_entries c w = (family c.protocol).most (setting c w)
 
 abbrev pub begun : Config → Workload → Progress
 begun c w = record { entries = []; flight = opening_mails c w }

@@ -83,8 +83,6 @@ pub trait Handles: Sized + Drop {
 
 /// A node of a workload.
 pub trait Server<'w>: Handles {
-    const KIND: Protocol;
-
     /// Its protocol.
     fn protocol() -> Protocol
         ensures { result ≡ Self.protocol };

@@ -6,9 +6,11 @@ use Rattle.deneva_base.specs.declared.config.Config.{Config}
 use Rattle.deneva_base.specs.declared.keys.Key.{Key}
 use Rattle.txn_program.specs.Valid.{IsValid}
 use Rattle.txn_program.specs.declared.programs.Workload.{Workload}
-use Rattle.server_core.specs.Configs.{IsConfig, IsVoting}
+use Rattle.server_core.specs.Configs.{IsConfig}
+use Rattle.protocol_rules.specs.Protocols.{IsVoting}
 use Rattle.server_core.specs.Fits.{AllFitting}
-use Rattle.server_core.specs.NodeRows.{rows_under, rows_of_node}
+use Rattle.server_core.specs.Family.{Family}
+use Rattle.server_core.specs.NodeRows.{rows_of_node}
 use Rattle.server_core.specs.Picks.{most_entries}
 use Rattle.server_core.specs.Runs.{heard}
 use Rattle.server_core.specs.Says.{IsRun}
@@ -17,7 +19,8 @@ use Rattle.server_core.specs.declared.messages.Entry.{Entry}
 use Rattle.server_core.specs.declared.messages.Mail.{Mail}
 use Rattle.protocol_rules.specs.Protocols.{Chosen, chosen}
 use Rattle.server_core.proofs.flight.Addresses.{voting_between}
-use Rattle.server_core.proofs.configured.Bridges.{choice}
+use Rattle.protocol_rules.proofs.Voting.{choice}
+use Rattle.server_core.proofs.configured.Families.{family_votes}
 use Rattle.server_core.proofs.configured.Limiteds.{limits}
 use Rattle.server_core.proofs.configured.ValidSettings.{valid}
 use Rattle.voting_laws.proofs.Voted as voted
@@ -47,4 +50,4 @@ module _ (c : Config) (w : Workload) (H : List Entry) (flight : List Mail) (vote
   pub rows_kept_apart : (p : ℕ) (key : Key) → partition_of key c.parts ≢ p → rows_of_node c w p (heard p H) key ≡ None
   rows_kept_apart p key ne =
       let g = run_good (setting c w) (valid c w k d votes) (limits c w k d votes) H flight (voted.voting_run c w o.0 o.1 H flight run) in
-      ap (λ z. rows_under z (setting c w) p (heard p H) key) o.1 ∙ voting_apart (setting c w) p (valid c w k d votes) (heard p H) (g.fit p) key ne
+      ap (λ (f : Family). f.rows (setting c w) p (heard p H) key) (family_votes c.protocol votes) ∙ voting_apart (setting c w) p (valid c w k d votes) (heard p H) (g.fit p) key ne

@@ -1,6 +1,6 @@
 -- A run under a voting protocol is a run of its setting, and what is said of that holds of the configuration and workload.
 use Rattle.server_core.specs.Limits.{most_events, Limits}
-use Rattle.server_core.specs.Picks.{Progress, deliveries, position, picked, most_under, most_entries}
+use Rattle.server_core.specs.Picks.{Progress, deliveries, position, picked, most_entries}
 use Rattle.server_core.specs.Voting.{says, opening}
 use Rattle.server_core.specs.declared.schedules.Schedule.{Schedule}
 use Rattle.voting_laws.proofs.numbers.Deliveries.{schedule_run, ends}
@@ -22,17 +22,19 @@ use Rattle.txn_program.specs.Valid.{IsValid}
 use Rattle.txn_program.specs.declared.programs.Workload.{Workload}
 use Rattle.txn_program.proofs.Loads.{distinct_rows}
 use Rattle.server_core.specs.Aborts.{aborts_of}
-use Rattle.server_core.specs.Atomic.{IsAtomic, IsAllOrNone}
-use Rattle.server_core.specs.Fits.{AllFitting, AllFittingBy, suits_under}
-use Rattle.server_core.specs.IsSerial.{IsSerial, IsDecided, IsGivenUp, ran}
+use Rattle.server_core.specs.Atomic.{IsAtomic}
+use Rattle.server_core.specs.Family.{Family, family_of, family, voting as votes}
+use Rattle.server_core.specs.Fits.{AllFitting, AllFittingBy}
+use Rattle.server_core.specs.IsSerial.{IsSerial, IsDecided, IsGivenUp, Rises, ran}
+use Rattle.server_core.specs.Named.{AllNamed}
+use Rattle.server_core.specs.Participant.{node_rows}
+use Rattle.server_core.specs.Lines.{lines, sort_lines, giveups_of}
+use Rattle.server_core.specs.Outcome.{outcome, outcome_in, outcome_with, last_rows}
 use Rattle.server_core.specs.ReportOrder.{InReportOrder}
 use Rattle.server_core.specs.Told.{IsTold}
-use Rattle.server_core.specs.Named.{AllNamed, IsNamedUnder}
-use Rattle.server_core.specs.NodeRows.{node_rows}
-use Rattle.server_core.specs.Outcome.{outcome, outcome_with, outcome_under, lines, sort_lines, giveups_of, last_rows}
 use Rattle.server_core.specs.Proper.{Valid}
 use Rattle.server_core.specs.Runs.{heard, Reaches}
-use Rattle.server_core.specs.Says.{IsRun, IsQuiet, says_under, opening_under}
+use Rattle.server_core.specs.Says.{IsRun, IsQuiet}
 use Rattle.server_core.specs.Setting.{Setting, setting}
 use Rattle.server_core.specs.declared.messages.Entry.{Entry}
 use Rattle.server_core.specs.declared.messages.Mail.{Mail}
@@ -55,20 +57,23 @@ module _ (c : Config) (w : Workload) (o : Chosen) (is : chosen c.protocol ≡ So
   abbrev s : Setting
   s = setting c w
 
+  kin : family c.protocol ≡ votes
+  kin = ap family_of is
+
   pub voting_run : (H : List Entry) (flight : List Mail) → IsRun c w H flight → voting.IsRun s H flight
-  voting_run H flight run = subst (λ z. Reaches (says_under z s) (opening_under z s) H flight) is run
+  voting_run H flight run = subst (λ (f : Family). Reaches (f.says s) (f.opening s) H flight) kin run
 
   outcome_is : (H : List Entry) → outcome c w H ≡ outcome_with c w (sort_lines (lines s H)) (giveups_of s H) (aborts_of s H)
-  outcome_is H = ap (λ z. outcome_under z c w H) is
+  outcome_is H = ap (λ f. outcome_in f c w H) kin
 
   module _ (v : Valid s) (lim : Limits s) where
     pub all_fitting : (H : List Entry) (flight : List Mail) → IsRun c w H flight → AllFitting c w H flight
     all_fitting H flight r =
         let run = voting_run H flight r in
-        subst (λ z. AllFittingBy (suits_under z s) H flight) (sym is) (each_fits s v H flight (run_good s v lim H flight run) (run_small s v lim H flight run))
+        subst (λ (f : Family). AllFittingBy (f.suits s) H flight) (sym kin) (each_fits s v H flight (run_good s v lim H flight run) (run_small s v lim H flight run))
 
     pub short : (H : List Entry) (flight : List Mail) → IsRun c w H flight → length H ≤ most_entries c w
-    short H flight r = subst (λ z. length H ≤ most_under z s) (sym is) (run_short s v H flight (run_good s v lim H flight (voting_run H flight r)))
+    short H flight r = subst (λ (f : Family). length H ≤ f.most s) (sym kin) (run_short s v H flight (run_good s v lim H flight (voting_run H flight r)))
 
     -- what any schedule picks is a quiet run
     pub picked_quiet : (schedule : Schedule) → IsQuiet c w (picked c w schedule)
@@ -77,18 +82,18 @@ module _ (c : Config) (w : Workload) (o : Chosen) (is : chosen c.protocol ≡ So
         let start : Progress = record { entries = []; flight = opening s } in
         let last : Progress = deliveries (says s) pick 0 (most_events s) start in
         subst
-        (λ z. Reaches (says_under z s) (opening_under z s) (deliveries (says_under z s) pick 0 (most_under z s) (record { entries = []; flight = opening_under z s })).entries [])
-        (sym is)
+        (λ (f : Family). Reaches (f.says s) (f.opening s) (deliveries (f.says s) pick 0 (f.most s) (record { entries = []; flight = f.opening s })).entries [])
+        (sym kin)
         (subst (λ l. voting.IsRun s last.entries l) (ends s v lim pick (position_picks schedule) start refl refl) (schedule_run s v lim pick 0 (most_events s) start refl))
 
     pub atomic : (H : List Entry) → IsQuiet c w H → IsAtomic c w H
-    atomic H r x i = subst (λ z. IsAllOrNone z s H x) (sym is) (whole s v H (run_good s v lim H [] (voting_run H [] r)) x)
+    atomic H r x i = subst (λ (f : Family). f.whole s H x) (sym kin) (whole s v H (run_good s v lim H [] (voting_run H [] r)) x)
 
     pub all_named : (H : List Entry) (flight : List Mail) → Naming s.rule → IsRun c w H flight → AllNamed c w H
     all_named H flight nm r l i =
         let run = voting_run H flight r in
         let u = run_under s v lim H flight run in
-        subst (λ z. IsNamedUnder z s H l) (sym is) (named s v nm H flight (run_good s v lim H flight run) (run_top s lim H) u.0 u.1 l (subst (λ (z : Outcome). IsIn l z.aborts) (outcome_is H) i))
+        subst (λ (f : Family). f.named s H l) (sym kin) (named s v nm H flight (run_good s v lim H flight run) (run_top s lim H) u.0 u.1 l (subst (λ (z : Outcome). IsIn l z.aborts) (outcome_is H) i))
 
     pub decided : (H : List Entry) → WaitsLaw s.rule → IsQuiet c w H → (x : TxnId) → IsIn x (all_ids w) → IsDecided (outcome c w H) x ⊎ IsGivenUp (outcome c w H) x
     decided H waits r x i = subst (λ (z : Outcome). IsDecided z x ⊎ IsGivenUp z x) (sym (outcome_is H)) (quiet_decided s v lim waits H (voting_run H [] r) x i)

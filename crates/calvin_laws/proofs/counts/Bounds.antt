@@ -23,8 +23,7 @@ use Rattle.server_core.specs.CalvinRuns.{IsRun}
 use Rattle.server_core.specs.CalvinProper.{Valid}
 use Rattle.calvin_laws.proofs.counts.RightMails.{RightMsg, Right, rights}
 use Rattle.server_core.specs.Limits.{count_entries, sum_of}
-use Rattle.server_core.specs.Picks.{most_ordered}
-use Rattle.server_core.specs.CalvinLimits.{is_clock, is_about}
+use Rattle.server_core.specs.CalvinLimits.{most_ordered, is_clock, is_about}
 use Rattle.server_core.proofs.lists.ListTests.{below_in, same_number, id_self, in_below, in_flat, below_length}
 use Rattle.calvin_laws.proofs.order.Nodes.{id_is}
 use Rattle.calvin_laws.proofs.counts.Counts.{is_tick, is_batch, is_rows, is_done, occurs_once}

@@ -3,7 +3,8 @@ use Rattle.std.proofs.Common.{◌≡◌, ℕ, []}
 use Rattle.server_core.specs.Calvin.{says, opening}
 use Rattle.server_core.specs.CalvinProper.{Valid}
 use Rattle.server_core.specs.CalvinRuns.{IsRun}
-use Rattle.server_core.specs.Picks.{Progress, PicksOne, deliver, deliveries, most_ordered}
+use Rattle.server_core.specs.CalvinLimits.{most_ordered}
+use Rattle.server_core.specs.Picks.{Progress, PicksOne, deliver, deliveries}
 use Rattle.server_core.specs.Setting.{Setting}
 use Rattle.server_core.proofs.flight.AnyDeliveries as any
 use Rattle.calvin_laws.proofs.counts.Bounds.{all_most}

@@ -2,8 +2,7 @@
 use Rattle.std.proofs.Common.{◌≡◌, ◌≢◌, ℕ, List, None}
 use Rattle.deneva_base.specs.Partitions.{partition_of}
 use Rattle.deneva_base.specs.declared.keys.Key.{Key}
-use Rattle.server_core.specs.NodeRows.{ordered_rows}
-use Rattle.server_core.specs.CalvinScheduler.{now}
+use Rattle.server_core.specs.CalvinScheduler.{ordered_rows, now}
 use Rattle.server_core.specs.Setting.{Setting}
 use Rattle.server_core.specs.declared.messages.Msg.{Msg}
 use Rattle.server_core.proofs.lists.Parts.{off}

@@ -6,7 +6,7 @@ use Rattle.deneva_base.specs.Lists.{IsIn}
 use Rattle.deneva_base.specs.declared.numbers.TxnId.{TxnId}
 use Rattle.deneva_base.proofs.Membership.{in_cases, and_parts, in_map_from}
 use Rattle.txn_program.specs.Transactions.{numbers_below}
-use Rattle.server_core.specs.Atomic.{is_finished_of, finishes, IsFinishedAt, IsFinished}
+use Rattle.server_core.specs.CalvinAtomic.{is_finished_of, finishes, IsFinishedAt, IsFinished}
 use Rattle.server_core.specs.Calvin.{says, became_ready, rows_mails, ready_mails, finished_mail, finished_mails, tick_mail, batch_mails}
 use Rattle.server_core.specs.CalvinProper.{Valid}
 use Rattle.server_core.specs.CalvinRuns.{IsRun}

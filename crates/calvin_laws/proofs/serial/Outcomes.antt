@@ -19,7 +19,8 @@ use Rattle.server_core.specs.CalvinSerial.{RisingIds, read_at, reads_on, serial_
 use Rattle.server_core.specs.Effects.{leaves, written, appended}
 use Rattle.server_core.specs.GlobalOrder.{order, number}
 use Rattle.server_core.specs.IsSerial.{ran, Rises}
-use Rattle.server_core.specs.Outcome.{decided_as, rows_of}
+use Rattle.server_core.specs.Lines.{decided_as}
+use Rattle.server_core.specs.Outcome.{rows_of}
 use Rattle.server_core.specs.Setting.{Setting}
 use Rattle.server_core.specs.declared.outcomes.Decided.{Decided as Line}
 use Rattle.calvin_laws.proofs.order.OrderNumbers.{rising}

@@ -30,7 +30,7 @@ use Rattle.server_core.specs.CalvinSerial.{reads_on, serial_step, serial_after, 
 use Rattle.calvin_laws.proofs.serial.SerialTurns.{Known, serial_changes, by_changes, after-append, append-one, collected_is, applied_is}
 use Rattle.calvin_laws.proofs.counts.RightMails.{RightMsg, rights, known}
 use Rattle.server_core.proofs.values.Values.{find_msg, heard_mail}
-use Rattle.server_core.specs.Outcome.{ordered_lines, decided_as}
+use Rattle.server_core.specs.Lines.{ordered_lines, decided_as}
 use Rattle.server_core.specs.declared.outcomes.Decided.{Decided}
 use Rattle.server_core.proofs.lists.ListTests.{or_left, or_right, not_both, is_or_not, all_from, map_same, in_has, same_number}
 use Rattle.calvin_laws.proofs.order.Nodes.{participant_is, access_there, number_is, id_is}

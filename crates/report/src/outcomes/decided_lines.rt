@@ -2,7 +2,7 @@
 ghost use Rattle.std.specs.Prelude.{◌≡◌, ◌++◌, List, map, IfOk, OnOk, option_to_list};
 ghost use Rattle.server_core.specs.Coordinator as coordinator;
 ghost use Rattle.server_core.specs.Ends.{attempt};
-ghost use Rattle.server_core.specs.Outcome as outcome;
+ghost use Rattle.server_core.specs.Lines as listed;
 ghost use Rattle.server_core.specs.declared.messages.Entry as messages;
 ghost use Rattle.report.specs.ByTransaction.{lines_for};
 ghost use Rattle.report.specs.GrantedRows.{reply_of};
@@ -17,7 +17,7 @@ use txn_program::{Effect, effect_of};
 
 /// The number of the attempt's Commit.
 fn committed_n(who: Attempt, entries: &[&Entry]) -> u64
-    ensures { result ≡ outcome.committed_n who (map (λ e. e.now) entries.now) }
+    ensures { result ≡ listed.committed_n who (map (λ e. e.now) entries.now) }
 {
     let [entry, before @ ..] = entries else {
         return 0;
@@ -55,7 +55,7 @@ impl Story<'_> {
         n: u64,
         reads: RowList,
     ) -> Result<Decided, NoMemory>
-        ensures { IfOk result (λ line. (H : List messages.Entry) → Tells run.entry H self.now → line ≡ outcome.decided_as (setting_of run.entry) self.now.id n reads) }
+        ensures { IfOk result (λ line. (H : List messages.Entry) → Tells run.entry H self.now → line ≡ listed.decided_as (setting_of run.entry) self.now.id n reads) }
     {
         let Effect {
             verdict,
@@ -74,7 +74,7 @@ impl Story<'_> {
 
     /// The line of the transaction, of which the attempt of this turn is decided.
     fn line_of(&self, run: Run<'_>, turn: u8) -> Result<Decided, NoMemory>
-        ensures { IfOk result (λ line. (H : List messages.Entry) → Tells run.entry H self.now → line ≡ outcome.line_of (setting_of run.entry) H (attempt self.now.id turn)) }
+        ensures { IfOk result (λ line. (H : List messages.Entry) → Tells run.entry H self.now → line ≡ listed.line_of (setting_of run.entry) H (attempt self.now.id turn)) }
     {
         let who = self.attempt(turn);
         let rows = grants_for(run.alloc, who, &self.messages)?;

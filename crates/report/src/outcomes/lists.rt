@@ -4,7 +4,7 @@ ghost use Rattle.std.specs.List.{All, IsDistinct, flat_map};
 ghost use Rattle.deneva_base.specs.Keys.{id_eq};
 ghost use Rattle.txn_program.specs.Placed.{ArePlaced};
 ghost use Rattle.server_core.specs.Aborts as aborts;
-ghost use Rattle.server_core.specs.Outcome.{sort_lines};
+ghost use Rattle.server_core.specs.Lines.{sort_lines};
 ghost use Rattle.server_core.specs.declared.messages.Entry as messages;
 ghost use Rattle.report.specs.ByTransaction.{lines_for, giveups_for};
 ghost use Rattle.report.specs.Stories.{Tells, setting_of};

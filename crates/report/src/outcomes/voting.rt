@@ -1,7 +1,7 @@
 //! What came of a run of a voting protocol.
 ghost use Rattle.std.specs.Prelude.{◌≡◌, ◌↔◌, IsTrue, List, reverse, IfOk};
 ghost use Rattle.txn_program.specs.Placed.{ArePlaced};
-ghost use Rattle.server_core.specs.Configs.{IsVoting};
+ghost use Rattle.protocol_rules.specs.Protocols.{IsVoting};
 ghost use Rattle.server_core.specs.Outcome.{outcome};
 ghost use Rattle.server_core.specs.declared.messages.Entry as messages;
 ghost use Rattle.report.specs.Outcomes.{with_rows, IsOver};

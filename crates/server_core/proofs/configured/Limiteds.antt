@@ -2,46 +2,16 @@
 use Rattle.std.proofs.Common.{◌≡◌, ℕ, suc, ◌+◌, ◌*◌, ◌≤◌, List, [], ◌∷◌, length, inl, inr, refl, arith}
 use Rattle.protocol_rules.specs.Growth.{Grows}
 use Rattle.deneva_base.specs.Lists.{IsIn}
-use Rattle.protocol_rules.specs.Protocols.{chosen, kept_versions, window_span}
 use Rattle.deneva_base.specs.declared.config.Config.{Config}
-use Rattle.deneva_base.specs.declared.config.Protocol.{Protocol}
-use Rattle.deneva_base.specs.declared.config.Protocol.TheVariants.{NoWait, WaitDie, Timestamp, Mvcc, Maat, Calvin}
 use Rattle.deneva_base.specs.declared.numbers.TxnId.{TxnId}
-use Rattle.protocol_rules.proofs.NoWaitServed as no_wait
-use Rattle.protocol_rules.proofs.WaitDieServed as wait_die
-use Rattle.protocol_rules.proofs.StampsServed as stamps
-use Rattle.protocol_rules.proofs.MaatServed as maat
 use Rattle.txn_program.specs.Valid.{IsValid}
 use Rattle.txn_program.specs.declared.programs.Workload.{Workload}
 use Rattle.txn_program.proofs.WorkloadLaws as law
-use Rattle.server_core.specs.Configs.{IsConfig, IsVoting}
+use Rattle.server_core.specs.Configs.{IsConfig}
+use Rattle.protocol_rules.specs.Protocols.{IsVoting}
 use Rattle.server_core.specs.Limits.{most_of, sum_of, most_events, Limits}
-use Rattle.server_core.specs.Setting.{Setting, chosen_or_none, setting, parts_of}
-
--- by how much one call raises the numbers
-abbrev pub span_of : Protocol → ℕ
-span_of NoWait = 1
-span_of WaitDie = 1
-span_of Timestamp = 0
-span_of Mvcc = 0
-span_of Maat = window_span + 1
-span_of Calvin = 0
-
-pub grows : (p : Protocol) → IsVoting p → Grows (chosen_or_none (chosen p)).rule (span_of p)
-grows NoWait n = no_wait.grows
-grows WaitDie n = wait_die.grows
-grows Timestamp n = stamps.timestamp_grows
-grows Mvcc n = stamps.mvcc_grows kept_versions
-grows Maat n = maat.grows window_span
-grows Calvin n = absurd (n refl)
-
-span_within : (p : Protocol) → span_of p ≤ 4097
-span_within NoWait = omega arith
-span_within WaitDie = omega arith
-span_within Timestamp = omega arith
-span_within Mvcc = omega arith
-span_within Maat = omega arith
-span_within Calvin = omega arith
+use Rattle.server_core.specs.Setting.{Setting, setting, parts_of}
+use Rattle.server_core.proofs.configured.ValidSettings.{rule_served}
 
 times_le : (a b k : ℕ) → a ≤ b → a * k ≤ b * k
 times_le a b k h = grind (arith, h)
@@ -73,5 +43,6 @@ limits_within s span g within parts eight ids each =
 
 pub limits : (c : Config) (w : Workload) → IsConfig c → IsValid w → IsVoting c.protocol → Limits (setting c w)
 limits c w config v votes =
-    limits_within (setting c w) (span_of c.protocol) (grows c.protocol votes) (omega (arith, span_within c.protocol)) config.few_parts config.few_attempts (law.few_ids w v)
+    let served = rule_served c.protocol votes in
+    limits_within (setting c w) served.span served.grows served.short config.few_parts config.few_attempts (law.few_ids w v)
     (λ x. (law.few_accesses w v x, omega (arith, law.few_participants w v x c.parts, config.few_parts)))

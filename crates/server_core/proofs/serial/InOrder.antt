@@ -26,7 +26,8 @@ use Rattle.server_core.specs.Coordinator.{first_no, greatest_lo, least_hi}
 use Rattle.server_core.specs.Replies.{Ballot, votes_for, started_for, all_voted}
 use Rattle.server_core.specs.Ends.{attempt, at_home, all_undone}
 use Rattle.server_core.specs.IsSerial.{Rises}
-use Rattle.server_core.specs.Outcome.{outcome_with, giveups_of, last_rows, left_by, rows_of}
+use Rattle.server_core.specs.Lines.{giveups_of}
+use Rattle.server_core.specs.Outcome.{outcome_with, last_rows, left_by, rows_of}
 use Rattle.server_core.specs.ReportOrder.{rise, rise_from, id_lt, InReportOrder}
 use Rattle.server_core.specs.Setting.{Setting, setting, participants}
 use Rattle.server_core.specs.declared.messages.Entry.{Entry}

@@ -6,7 +6,7 @@ use Rattle.deneva_base.specs.Lists.{IsIn}
 use Rattle.deneva_base.specs.Keys.{NumberLt, number_lt}
 use Rattle.deneva_base.proofs.Membership.{number_decides}
 use Rattle.server_core.specs.declared.outcomes.Decided.{Decided as Line}
-use Rattle.server_core.specs.Outcome.{put_line, sort_lines}
+use Rattle.server_core.specs.Lines.{put_line, sort_lines}
 use Rattle.server_core.specs.IsSerial.{Rises}
 
 -- a sorted list has the same lines

@@ -2,7 +2,7 @@
 use Rattle.std.proofs.Common.{◌⊎◌, List, []}
 use Rattle.deneva_base.specs.declared.numbers.TxnId.{TxnId}
 use Rattle.deneva_base.specs.Lists.{IsIn}
-use Rattle.server_core.specs.Outcome.{sort_lines, lines, giveups_of}
+use Rattle.server_core.specs.Lines.{sort_lines, lines, giveups_of}
 use Rattle.server_core.specs.declared.messages.Msg.TheVariants.{Ask}
 use Rattle.server_core.specs.declared.messages.Entry.{Entry}
 use Rattle.server_core.specs.Setting.{Setting}

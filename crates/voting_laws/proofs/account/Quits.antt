@@ -32,7 +32,7 @@ use Rattle.server_core.specs.Counts.{all_said, count_msgs}
 use Rattle.server_core.specs.Limits.{sum_of}
 use Rattle.server_core.specs.declared.outcomes.Giveup.{Giveup}
 use Rattle.server_core.specs.Ends.{attempt, dones_for, undones_for, all_done, all_undone, done_turn}
-use Rattle.server_core.specs.Outcome.{sort_lines, giveups_of, line_of, line_if, lines}
+use Rattle.server_core.specs.Lines.{sort_lines, giveups_of, line_of, line_if, lines}
 use Rattle.server_core.proofs.serial.SerialWords.{IsDecidedIn, IsGivenUpIn}
 use Rattle.protocol_rules.specs.Waits.{WaitsLaw, Nothing, ForYounger, ForWriter}
 use Rattle.server_core.proofs.counts.Conserved.{handled}

@@ -29,7 +29,7 @@ use Rattle.server_core.specs.Runs.{heard}
 use Rattle.server_core.specs.Counts.{all_said}
 use Rattle.server_core.specs.declared.outcomes.Decided.{Decided as Line}
 use Rattle.server_core.specs.Ends.{attempt, at_home, dones_for, all_done, done_turn}
-use Rattle.server_core.specs.Outcome.{n_in, committed_n, line_of, line_if, lines}
+use Rattle.server_core.specs.Lines.{n_in, committed_n, line_of, line_if, lines}
 use Rattle.server_core.proofs.values.Origins.{started_ids}
 use Rattle.server_core.proofs.values.Values.{key_there, done_made, is_done}
 use Rattle.server_core.proofs.lists.Parts.{parts_in}

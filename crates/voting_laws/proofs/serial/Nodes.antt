@@ -15,16 +15,16 @@ use Rattle.protocol_rules.proofs.Sound.{row_found, Sound, sound}
 use Rattle.server_core.specs.declared.messages.Entry.{Entry}
 use Rattle.server_core.specs.Setting.{Setting, loaded_at, rule_at, participants}
 use Rattle.deneva_base.specs.Partitions.{partition_of}
-use Rattle.server_core.specs.Participant.{calls}
+use Rattle.server_core.specs.Participant.{calls, node_rows}
 use Rattle.server_core.specs.Effects.{written, appended, leaves}
 use Rattle.server_core.specs.Coordinator.{effect_of, reads_of}
 use Rattle.txn_program.specs.declared.effects.Effect.{Effect}
 use Rattle.server_core.specs.Proper.{Valid}
 use Rattle.server_core.specs.Runs.{heard}
 use Rattle.server_core.specs.declared.outcomes.Decided.{Decided as Line}
-use Rattle.server_core.specs.Outcome.{lines, replies, greatest, rows_of}
+use Rattle.server_core.specs.Lines.{lines, replies}
+use Rattle.server_core.specs.Outcome.{greatest, rows_of}
 use Rattle.protocol_rules.specs.Leaving.{later, row_or, left_in, greatest_at}
-use Rattle.server_core.specs.NodeRows.{node_rows}
 use Rattle.server_core.proofs.serial.SerialWords.{txn_of, Wrote}
 use Rattle.server_core.proofs.values.Called.{obeys}
 use Rattle.voting_laws.proofs.fits.Joins.{decided_heard, heard_decided}

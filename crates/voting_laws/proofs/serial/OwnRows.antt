@@ -12,8 +12,7 @@ use Rattle.deneva_base.specs.declared.numbers.Attempt.{Attempt}
 use Rattle.deneva_base.specs.declared.rows.Keyed.{Keyed}
 use Rattle.protocol_rules.proofs.Sound.{row_found}
 use Rattle.deneva_base.proofs.Membership.{in_cases}
-use Rattle.server_core.specs.NodeRows.{node_rows}
-use Rattle.server_core.specs.Participant.{calls}
+use Rattle.server_core.specs.Participant.{node_rows, calls}
 use Rattle.server_core.specs.Proper.{Valid}
 use Rattle.server_core.specs.Setting.{Setting}
 use Rattle.server_core.specs.VotingFits.{Suits, AllFit}

@@ -30,7 +30,8 @@ use Rattle.server_core.specs.Runs.{heard}
 use Rattle.server_core.specs.declared.outcomes.Decided.{Decided as Line}
 use Rattle.server_core.specs.declared.outcomes.Giveup.{Giveup}
 use Rattle.server_core.specs.Ends.{attempt, at_home, undones_for, all_done, all_undone, done_turn}
-use Rattle.server_core.specs.Outcome.{replies, line_of, line_if, lines, sort_lines, rows_of, giveups_of}
+use Rattle.server_core.specs.Lines.{replies, line_of, line_if, lines, sort_lines, giveups_of}
+use Rattle.server_core.specs.Outcome.{rows_of}
 use Rattle.protocol_rules.specs.Leaving.{row_or}
 use Rattle.server_core.specs.IsSerial.{ran, Rises}
 use Rattle.server_core.proofs.serial.SerialWords.{read_from, run_one, leave, serial, rows_after, IsDecidedIn, IsGivenUpIn, Txn, after, Replays, Rising, Wrote, Agrees, IsLast, txn_of}

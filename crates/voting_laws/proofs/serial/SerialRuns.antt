@@ -29,7 +29,7 @@ use Rattle.server_core.specs.Runs.{heard}
 use Rattle.server_core.specs.VotingAtomic.{Everywhere, CommitsAgree}
 use Rattle.server_core.specs.declared.outcomes.Decided.{Decided as Line}
 use Rattle.server_core.specs.Ends.{at_home, dones_for, all_done, done_turn}
-use Rattle.server_core.specs.Outcome.{replies, line_of, line_if, lines}
+use Rattle.server_core.specs.Lines.{replies, line_of, line_if, lines}
 use Rattle.server_core.proofs.serial.SerialWords.{txn_of, Txn, Wrote, Found, Agrees}
 use Rattle.server_core.proofs.counts.Starts.{started_turn, turn_bound}
 use Rattle.server_core.proofs.values.Origins.{started_ids}

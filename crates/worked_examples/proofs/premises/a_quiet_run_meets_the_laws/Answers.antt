@@ -3,7 +3,8 @@ use Rattle.std.proofs.Common.{refl, arith, []}
 use Rattle.std.specs.Fmt.{digits}
 use Rattle.txn_program.specs.Valid.{IsValid}
 use Rattle.deneva_base.specs.declared.config.Protocol.TheVariants.{WaitDie}
-use Rattle.server_core.specs.Configs.{IsConfig, IsVoting}
+use Rattle.server_core.specs.Configs.{IsConfig}
+use Rattle.protocol_rules.specs.Protocols.{IsVoting}
 use Rattle.server_core.specs.Limits.{Limits}
 use Rattle.server_core.specs.Picks.{picked}
 use Rattle.server_core.specs.Proper.{Valid}
@@ -11,7 +12,7 @@ use Rattle.server_core.specs.Says.{IsQuiet}
 use Rattle.server_core.specs.Setting.{setting}
 use Rattle.server_core.specs.declared.schedules.Schedule.TheVariants.{Fifo}
 use Rattle.server_core.proofs.configured.Limiteds.{limits}
-use Rattle.server_core.proofs.configured.ValidSettings.{naming, waits, valid}
+use Rattle.server_core.proofs.configured.ValidSettings.{rule_served, valid}
 use Rattle.voting_laws.proofs.Voted.{picked_quiet, all_named, atomic, serial, decided}
 use Rattle.worked_examples.specs.Workloads.{two_tries, three_writers_apart}
 use Rattle.worked_examples.proofs.premises.a_quiet_run_meets_the_laws.Goals as goal
@@ -52,7 +53,7 @@ returns c =
       waits = refl;
       restarts = refl;
       report = refl;
-      named = all_named two_tries three_writers_apart _ refl fit limited H [] (naming WaitDie votes) is_quiet;
+      named = all_named two_tries three_writers_apart _ refl fit limited H [] (rule_served WaitDie votes).naming is_quiet;
       atomic = atomic two_tries three_writers_apart _ refl fit limited H is_quiet;
-      serial = serial two_tries three_writers_apart _ refl fit limited is_valid H is_quiet (decided two_tries three_writers_apart _ refl fit limited H (waits WaitDie votes) is_quiet);
+      serial = serial two_tries three_writers_apart _ refl fit limited is_valid H is_quiet (decided two_tries three_writers_apart _ refl fit limited H (rule_served WaitDie votes).waits is_quiet);
     }

@@ -2,7 +2,8 @@
 use Rattle.std.proofs.Common.{refl, arith}
 use Rattle.txn_program.specs.Valid.{IsValid}
 use Rattle.deneva_base.specs.declared.config.Protocol.TheVariants.{WaitDie}
-use Rattle.server_core.specs.Configs.{IsConfig, IsVoting}
+use Rattle.server_core.specs.Configs.{IsConfig}
+use Rattle.protocol_rules.specs.Protocols.{IsVoting}
 use Rattle.server_core.specs.declared.schedules.Schedule.TheVariants.{Fifo}
 use Rattle.server_core.specs.Limits.{Limits}
 use Rattle.server_core.specs.Picks.{position, begun}

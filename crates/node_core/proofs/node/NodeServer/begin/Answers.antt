@@ -1,7 +1,7 @@
 use Rattle.std.proofs.Common.{[], ap, sym, ◌∙◌, subst}
 use Rattle.protocol_rules.specs.Protocols.{chosen}
 use Rattle.deneva_base.specs.Rows.{Rows}
-use Rattle.server_core.specs.Configs.{IsVoting}
+use Rattle.protocol_rules.specs.Protocols.{IsVoting}
 use Rattle.server_core.specs.Setting.{chosen_or_none}
 use Rattle.node_core.proofs.node.NodeServer.begin.Goals as goal
 

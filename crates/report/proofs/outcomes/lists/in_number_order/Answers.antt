@@ -2,7 +2,7 @@ use Rattle.std.proofs.Common.{List, map, refl, subst, rules, ap, sym, ◌∙◌}
 use Rattle.std.specs.List.{IsDistinct}
 use Rattle.std.proofs.lemmas.Fn.{always_returns_same}
 use Rattle.deneva_base.specs.Keys.{id_eq}
-use Rattle.server_core.specs.Outcome.{sort_lines}
+use Rattle.server_core.specs.Lines.{sort_lines}
 use Rattle.server_core.specs.declared.outcomes.Decided.{Decided}
 use Rattle.report.proofs.NumberOrder.{sorts_agree}
 use Rattle.report.proofs.outcomes.lists.in_number_order.Goals as goal

@@ -6,11 +6,12 @@ use Rattle.deneva_base.specs.Keys.{id_eq}
 use Rattle.txn_program.specs.Placed.{ArePlaced}
 use Rattle.txn_program.specs.Serial.{all_ids}
 use Rattle.txn_program.proofs.Ids.{distinct_ids, few_ids}
-use Rattle.server_core.specs.Outcome.{sort_lines}
+use Rattle.server_core.specs.Lines.{sort_lines}
+use Rattle.server_core.specs.Outcome.{outcome_in}
 use Rattle.server_core.specs.declared.outcomes.Decided.{Decided}
 use Rattle.server_core.specs.declared.outcomes.Outcome.{Outcome}
 use Rattle.server_core.specs.declared.outcomes.RunKind.TheVariants.{Under}
-use Rattle.server_core.proofs.configured.CalvinBridges.{outcome_ordered}
+use Rattle.server_core.proofs.configured.Families.{family_orders}
 use Rattle.report.specs.Outcomes.{with_rows}
 use Rattle.report.specs.Stories.{Tells, setting_of}
 use Rattle.report.specs.declared.outcomes.stories.Story.{Story}
@@ -54,4 +55,4 @@ returns c =
     let ids = ap (map (λ (t : Story). t.id)) c.deref.ensures.value ∙ c.in_ok-stories.ensures.ids in
     let decided = c.in_ok-decided.ensures ∙ ap sort_lines (c.in_ok-finished_lines.ensures H all ids) ∙ sorted_by_order r.config w r.ranges r.valid H in
     (λ i. record { kind = Under r.config.protocol; parts = r.config.parts; decided = decided i; giveups = c.new-giveups.ensures i; aborts = c.new-aborts.ensures i; rows = c.args.rows })
-    ∙ ap (λ (o : Outcome). with_rows o c.args.rows) (sym (outcome_ordered r.config w c.requires H))
+    ∙ ap (λ (o : Outcome). with_rows o c.args.rows) (sym (ap (λ f. outcome_in f r.config w H) (family_orders r.config.protocol c.requires)))

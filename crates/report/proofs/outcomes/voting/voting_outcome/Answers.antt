@@ -3,11 +3,12 @@ use Rattle.std.specs.List.{All, flat_map, IsDistinct}
 use Rattle.deneva_base.specs.Keys.{id_eq}
 use Rattle.txn_program.specs.Placed.{ArePlaced}
 use Rattle.server_core.specs.Aborts.{turns}
-use Rattle.server_core.specs.Outcome.{sort_lines}
+use Rattle.server_core.specs.Lines.{sort_lines}
+use Rattle.server_core.specs.Outcome.{outcome_in}
 use Rattle.server_core.specs.declared.outcomes.Decided.{Decided}
 use Rattle.server_core.specs.declared.outcomes.Outcome.{Outcome}
 use Rattle.server_core.specs.declared.outcomes.RunKind.TheVariants.{Under}
-use Rattle.server_core.proofs.configured.Bridges.{outcome_voting}
+use Rattle.server_core.proofs.configured.Families.{family_votes}
 use Rattle.report.specs.ByTransaction.{lines_for, giveups_for}
 use Rattle.report.specs.Outcomes.{with_rows}
 use Rattle.report.specs.Stories.{Tells, setting_of}
@@ -42,4 +43,4 @@ returns c =
     let giveups = c.in_ok-giveups.ensures H (subst (λ (l : List Story). All (Tells r H) l) (sym c.deref-2.ensures.value) all) ∙ ap (λ l. flat_map (giveups_for s H) (map (λ t. t.id) l)) c.deref-2.ensures.value ∙ ap (flat_map (giveups_for s H)) ids in
     let aborts = c.in_ok-aborts.ensures H (subst (λ (l : List Story). All (Tells r H) l) (sym c.deref-3.ensures.value) all) ∙ ap (λ l. flat_map (λ x. turns s H x s.attempts) (map (λ t. t.id) l)) c.deref-3.ensures.value ∙ ap (flat_map (λ x. turns s H x s.attempts)) ids in
     (λ i. record { kind = Under r.config.protocol; parts = r.config.parts; decided = decided i; giveups = giveups i; aborts = aborts i; rows = c.args.rows })
-    ∙ ap (λ (o : Outcome). with_rows o c.args.rows) (sym (outcome_voting r.config r.work.now c.requires H))
+    ∙ ap (λ (o : Outcome). with_rows o c.args.rows) (sym (ap (λ f. outcome_in f r.config r.work.now H) (family_votes r.config.protocol c.requires)))

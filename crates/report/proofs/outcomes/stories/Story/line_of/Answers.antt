@@ -1,6 +1,6 @@
 use Rattle.std.proofs.Common.{map, reverse, ◌++◌, ap, ap₂, ◌∙◌}
 use Rattle.server_core.specs.Coordinator.{reads_of}
-use Rattle.server_core.specs.Outcome.{committed_n}
+use Rattle.server_core.specs.Lines.{committed_n}
 use Rattle.server_core.specs.Replies.{grants_for}
 use Rattle.report.specs.GrantedRows.{reply_of}
 use Rattle.report.proofs.Telling.{line_told}
