@@ -2,22 +2,27 @@
 //! of a node, and the definitions that every theorem on runs stands on.
 #![tactic(auto)]
 
+mod loading;
 mod messages;
 mod openings;
 mod outbox;
 mod outcomes;
+mod role;
 mod schedules;
 mod server;
 mod settings;
+mod telling;
 #[cfg(test)]
 mod tests;
 mod threads;
+mod transactions;
 
 use deneva_base::{Items, Keyed, Shared};
 pub use messages::{Entry, Mail, Msg};
 pub use openings::opening;
 pub use outbox::Outbox;
 pub use outcomes::{AbortLine, Decided, Giveup, Outcome, RunKind};
+pub use role::Role;
 pub use schedules::Schedule;
 pub use server::{Handles, Letter, Server};
 pub use settings::{calvin_settings_are_valid, settings_are_valid};
