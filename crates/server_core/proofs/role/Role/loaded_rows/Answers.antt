@@ -1,4 +1,4 @@
-use Rattle.std.proofs.Common.{◌≤◌, List, map, ap, ◌∙◌, sym, subst}
+use Rattle.std.proofs.Common.{List, map, ap, ◌∙◌, sym, subst}
 use Rattle.std.specs.List.{IsDistinct}
 use Rattle.std.proofs.lemmas.Result.{IfOk-weaker}
 use Rattle.deneva_base.specs.Keys.{key_eq}
