@@ -40,8 +40,8 @@ use Rattle.calvin_laws.proofs.node.Steps.{owned, rows_news}
 use Rattle.calvin_laws.proofs.order.Orders.{order_once, order_in, ids-append, ids_filtered}
 use Rattle.calvin_laws.proofs.node.StoredRows.{now_finish}
 use Rattle.calvin_laws.proofs.order.TakenBatches.{as_far_splits}
-use Rattle.calvin_seq.specs.Places.{setting_of, accesses_at}
-use Rattle.calvin_seq.specs.declared.place.Place.{Place}
+use Rattle.server_core.specs.Roles.{setting_of, accesses_at}
+use Rattle.server_core.specs.declared.role.Role.{Role}
 use Rattle.calvin_sched.specs.Asked.{asked, requests_of, request_of}
 use Rattle.calvin_sched.specs.Freed.{freed_by, put_numbers}
 use Rattle.calvin_sched.specs.Queues.{for_key, left_by}
@@ -68,7 +68,7 @@ filter_swap {A} f g (x ∷ xs) = go (f x) refl (g x) refl (filter_swap f g xs)
     go false e false h next = next
 
 -- what a node knows of its run
-pub valid_at : (a : Place) → Valid (setting_of a)
+pub valid_at : (a : Role) → Valid (setting_of a)
 valid_at a = calvin.valid a.config a.work.now a.valid a.ranges
 
 nothing_in : {A : Type 0} (xs : List A) → ((x : A) → IsIn x xs → ⊥) → xs ≡ []

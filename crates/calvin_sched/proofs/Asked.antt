@@ -17,7 +17,7 @@ use Rattle.server_core.specs.ActiveList.{is_first, without}
 use Rattle.server_core.specs.Proper.{keys_in, ids_in}
 use Rattle.server_core.proofs.lists.ListTests.{not_true, not_both, is_or_not, id_tells, id_self, all_at, all_from, flat_in}
 use Rattle.server_core.proofs.lists.RowFolds.{filter-append}
-use Rattle.calvin_seq.specs.Places.{accesses_at}
+use Rattle.server_core.specs.Roles.{accesses_at}
 use Rattle.calvin_sched.specs.Queues.{for_key, without_first, left_by, is_free, heads}
 use Rattle.calvin_sched.specs.Asked.{request_of, requests_of, asked, all_free, Frees}
 use Rattle.calvin_sched.specs.declared.requests.Request.{Request}

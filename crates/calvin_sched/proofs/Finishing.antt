@@ -26,7 +26,7 @@ use Rattle.calvin_laws.proofs.order.Nodes.{Ready, ready_is, rows_in, finished_mo
 use Rattle.calvin_laws.proofs.node.Steps.{owned, own_fit, rows_news}
 use Rattle.calvin_laws.proofs.order.OrderNumbers.{rising}
 use Rattle.calvin_laws.proofs.serial.SerialTurns.{clash_there}
-use Rattle.calvin_seq.specs.Places.{accesses_at}
+use Rattle.server_core.specs.Roles.{accesses_at}
 use Rattle.calvin_sched.specs.Asked.{asked, all_free, Frees}
 use Rattle.calvin_sched.specs.Freed.{freed_on, freed_by, put_numbers, RisingNumbers}
 use Rattle.calvin_sched.specs.Queues.{for_key, heads}

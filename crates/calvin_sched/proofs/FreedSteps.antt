@@ -23,8 +23,8 @@ use Rattle.server_core.specs.GlobalOrder.{number}
 use Rattle.server_core.specs.CalvinScheduler.{takes_part}
 use Rattle.server_core.specs.Setting.{Setting}
 use Rattle.server_core.proofs.lists.ListTests.{flat_in}
-use Rattle.calvin_seq.specs.Places.{setting_of, accesses_at}
-use Rattle.calvin_seq.specs.declared.place.Place.{Place}
+use Rattle.server_core.specs.Roles.{setting_of, accesses_at}
+use Rattle.server_core.specs.declared.role.Role.{Role}
 use Rattle.calvin_sched.specs.Asked.{all_free}
 use Rattle.calvin_sched.specs.Freed.{freed_on, freed_by, put_numbers}
 use Rattle.calvin_sched.specs.Known.{AreKnown}
@@ -113,7 +113,7 @@ heads_in ended r (q ∷ rs) i = go (id_eq q.id ended) q.writes (λ j. heads_in e
     go false false next j = ⊎_elim (λ e. inl e) (λ a. inr (next a)) j
 
 -- those that become ready are transactions of the workload
-pub freed_known : (a : Place) (locks : LockTable) (ended : TxnId) (accesses : List Access) (n : Number) → AreKnown a locks → IsIn n (put_numbers [] (freed_by (setting_of a) a.part (queue_at locks) ended accesses)) → IsIn n.id (all_ids a.work.now)
+pub freed_known : (a : Role) (locks : LockTable) (ended : TxnId) (accesses : List Access) (n : Number) → AreKnown a locks → IsIn n (put_numbers [] (freed_by (setting_of a) a.part (queue_at locks) ended accesses)) → IsIn n.id (all_ids a.work.now)
 freed_known a locks ended accesses n known i =
     let new : IsIn n (freed_by (setting_of a) a.part (queue_at locks) ended accesses) = ⊎_elim (λ z. absurd z) (λ y. y) (put_cases n [] (freed_by (setting_of a) a.part (queue_at locks) ended accesses) i) in
     let at = flat_in (freed_on (setting_of a) a.part (queue_at locks) ended) n accesses new in

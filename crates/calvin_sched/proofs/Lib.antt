@@ -12,7 +12,6 @@ pub mod LockSteps
 pub mod ArrivalSteps
 pub mod BatchSteps
 pub mod RowSteps
-pub mod Loads
 pub mod Leaving
 pub mod NowRows
 pub mod Nodes

@@ -26,7 +26,7 @@ use Rattle.server_core.proofs.configured.Families.{family_orders}
 use Rattle.server_core.proofs.lists.ListTests.{flat_in}
 use Rattle.calvin_laws.proofs.order.Orders.{batch_in}
 use Rattle.std.proofs.lemmas.List.{length-map}
-use Rattle.calvin_seq.specs.Places.{role_of, setting_of}
+use Rattle.server_core.specs.Roles.{role_of, setting_of}
 use Rattle.calvin_sched.specs.Arrivals.{arrivals_at}
 use Rattle.calvin_sched.specs.Asked.{asked, all_free}
 use Rattle.calvin_sched.specs.Batches.{came, AreTaken, newly}
@@ -46,15 +46,15 @@ use Rattle.calvin_sched.proofs.Versions.{version_first}
 
 -- Under Calvin a message fits by its rules, and the node says what they tell.
 
-pub suits_of : (n : CalvinNode) (ms : List Msg) (f : ℕ) (m : Msg) → CalvinStands n ms → FitsRole (role_of n.place) f m ms → Suits (setting_of n.place) n.place.part f m ms
-suits_of n ms f m stands fits = subst (λ (k : Family). k.suits (setting_of n.place) n.place.part f m ms) (family_orders n.place.config.protocol stands.ordered) fits.suits
+pub suits_of : (n : CalvinNode) (ms : List Msg) (f : ℕ) (m : Msg) → CalvinStands n ms → FitsRole (role_of n.role) f m ms → Suits (setting_of n.role) n.role.part f m ms
+suits_of n ms f m stands fits = subst (λ (k : Family). k.suits (setting_of n.role) n.role.part f m ms) (family_orders n.role.config.protocol stands.ordered) fits.suits
 
-pub said_is : (n : CalvinNode) (ms more : List Msg) → CalvinStands n ms → says (setting_of n.place) n.place.part more ≡ said_by (role_of n.place) more
-said_is n ms more stands = sym (ap (λ (k : Family). k.says (setting_of n.place) n.place.part more) (family_orders n.place.config.protocol stands.ordered))
+pub said_is : (n : CalvinNode) (ms more : List Msg) → CalvinStands n ms → says (setting_of n.role) n.role.part more ≡ said_by (role_of n.role) more
+said_is n ms more stands = sym (ap (λ (k : Family). k.says (setting_of n.role) n.role.part more) (family_orders n.role.config.protocol stands.ordered))
 
 -- A Tick and a Finished leave the node as it was.
 
-pub stands_tick : (n : CalvinNode) (ms : List Msg) (e : ℕ) → CalvinStands n ms → ((f : ℕ) × Suits (setting_of n.place) n.place.part f (Tick e) ms) → CalvinStands n (Tick e ∷ ms)
+pub stands_tick : (n : CalvinNode) (ms : List Msg) (e : ℕ) → CalvinStands n ms → ((f : ℕ) × Suits (setting_of n.role) n.role.part f (Tick e) ms) → CalvinStands n (Tick e ∷ ms)
 stands_tick n ms e h fit = record {
   ordered = h.ordered;
   sequencer = h.sequencer;
@@ -67,7 +67,7 @@ stands_tick n ms e h fit = record {
   versions = h.versions;
 }
 
-pub stands_told : (n : CalvinNode) (ms : List Msg) (x : TxnId) (q : ℕ) (number : Number) → CalvinStands n ms → ((f : ℕ) × Suits (setting_of n.place) n.place.part f (Finished x q number) ms) → CalvinStands n (Finished x q number ∷ ms)
+pub stands_told : (n : CalvinNode) (ms : List Msg) (x : TxnId) (q : ℕ) (number : Number) → CalvinStands n ms → ((f : ℕ) × Suits (setting_of n.role) n.role.part f (Finished x q number) ms) → CalvinStands n (Finished x q number ∷ ms)
 stands_told n ms x q number h fit = record {
   ordered = h.ordered;
   sequencer = h.sequencer;
@@ -137,55 +137,55 @@ module _ (s : Setting) (v : Valid s) (p : ℕ) (ms : List Msg) (fit : AllFit s p
 
 -- What is said on it.
 
-module _ (n : CalvinNode) (ms : List Msg) (stands : CalvinStands n ms) (e q : ℕ) (ids : List TxnId) (suits : Suits (setting_of n.place) n.place.part q (Batch e q ids) ms) where
-  pub says_batch : (locks : LockTable) (fresh : List TxnId) → fresh ≡ newly_taken (setting_of n.place) (Batch e q ids) ms → HasLocks (setting_of n.place) n.place.part locks (Batch e q ids ∷ ms) → flat_map (mails_after (setting_of n.place) n.place.part (row_in n.store)) (filter (λ x. takes_part (setting_of n.place) x n.place.part && all_free (setting_of n.place) n.place.part (queue_at locks) x None) fresh) ≡ says (setting_of n.place) n.place.part (Batch e q ids ∷ ms)
+module _ (n : CalvinNode) (ms : List Msg) (stands : CalvinStands n ms) (e q : ℕ) (ids : List TxnId) (suits : Suits (setting_of n.role) n.role.part q (Batch e q ids) ms) where
+  pub says_batch : (locks : LockTable) (fresh : List TxnId) → fresh ≡ newly_taken (setting_of n.role) (Batch e q ids) ms → HasLocks (setting_of n.role) n.role.part locks (Batch e q ids ∷ ms) → flat_map (mails_after (setting_of n.role) n.role.part (row_in n.store)) (filter (λ x. takes_part (setting_of n.role) x n.role.part && all_free (setting_of n.role) n.role.part (queue_at locks) x None) fresh) ≡ says (setting_of n.role) n.role.part (Batch e q ids ∷ ms)
   says_batch locks fresh is has =
-      let s : Setting = setting_of n.place in
-      let p : ℕ = n.place.part in
-      let v : Valid s = calvin.valid n.place.config n.place.work.now n.place.valid n.place.ranges in
+      let s : Setting = setting_of n.role in
+      let p : ℕ = n.role.part in
+      let v : Valid s = calvin.valid n.role.config n.role.work.now n.role.valid n.role.ranges in
       ap (λ l. flat_map (mails_after s p (row_in n.store)) (filter (λ x. takes_part s x p && all_free s p (queue_at locks) x None) l)) is
       ∙ ap (flat_map (mails_after s p (row_in n.store))) (sym (ready_with s v p ms stands.fit e q ids ((q, suits), stands.fit) (queue_at locks) has))
-      ∙ all_mails_now n.place.config n.place.work.now n.place.ranges n.place.valid p (Batch e q ids ∷ ms) n.store stands.versions (became_ready s p (Batch e q ids) ms)
+      ∙ all_mails_now n.role.config n.role.work.now n.role.ranges n.role.valid p (Batch e q ids ∷ ms) n.store stands.versions (became_ready s p (Batch e q ids) ms)
 
 -- The place of a batch, and its transactions.
 
-module _ (n : CalvinNode) (ms : List Msg) (stands : CalvinStands n ms) (e q : ℕ) (ids : List TxnId) (suits : Suits (setting_of n.place) n.place.part q (Batch e q ids) ms) where
-  pub place_in : e * n.place.config.parts + q < length (came n.batches)
+module _ (n : CalvinNode) (ms : List Msg) (stands : CalvinStands n ms) (e q : ℕ) (ids : List TxnId) (suits : Suits (setting_of n.role) n.role.part q (Batch e q ids) ms) where
+  pub place_in : e * n.role.config.parts + q < length (came n.batches)
   place_in =
-      let s : Setting = setting_of n.place in
+      let s : Setting = setting_of n.role in
       let low = place_below s.parts (epochs s) e q suits.3 suits.4 in
       let many : length (came n.batches) ≡ epochs s * s.parts = ap {B = ℕ} (λ (l : List (Option (List TxnId))). length l) stands.batches.came ∙ length-map (slots s) (batch_if s ms) ∙ slots_length s.parts (epochs s) in
-      subst (λ k. e * n.place.config.parts + q < k) (sym many) low
+      subst (λ k. e * n.role.config.parts + q < k) (sym many) low
 
-  pub fresh_at : (k : ℕ) (l fresh : List TxnId) → fresh ≡ newly k l (came n.batches) → k ≡ e * n.place.config.parts + q → l ≡ ids → fresh ≡ newly_taken (setting_of n.place) (Batch e q ids) ms
+  pub fresh_at : (k : ℕ) (l fresh : List TxnId) → fresh ≡ newly k l (came n.batches) → k ≡ e * n.role.config.parts + q → l ≡ ids → fresh ≡ newly_taken (setting_of n.role) (Batch e q ids) ms
   fresh_at k l fresh is at its =
       is ∙ ap₂ (λ (i : ℕ) (j : List TxnId). newly i j (came n.batches)) at its
-      ∙ newly_are (setting_of n.place) ms e q ids (suits.3, suits.4) suits.2 n.batches stands.batches
+      ∙ newly_are (setting_of n.role) ms e q ids (suits.3, suits.4) suits.2 n.batches stands.batches
 
-  pub fresh_known : (x : TxnId) → IsIn x (newly_taken (setting_of n.place) (Batch e q ids) ms) → IsIn x (setting_of n.place).ids
+  pub fresh_known : (x : TxnId) → IsIn x (newly_taken (setting_of n.role) (Batch e q ids) ms) → IsIn x (setting_of n.role).ids
   fresh_known x i =
-      let s : Setting = setting_of n.place in
+      let s : Setting = setting_of n.role in
       let f = flat_in (batch s) x (as_far (has_batch (Batch e q ids ∷ ms)) (past (has_batch ms) (slots s))) i in
       (batch_in s f.0 x f.2).0
 
-  pub stands_batch : (batches : Batches) (locks : LockTable) (fresh : List TxnId) → fresh ≡ newly_taken (setting_of n.place) (Batch e q ids) ms → ((key : Key) → queue_at locks key ≡ queue_at n.locks key ++ for_key key (asked (setting_of n.place) n.place.part fresh)) → came batches ≡ slice_set (came n.batches) (e * n.place.config.parts + q) (Some ids) → AreTaken batches → CalvinStands (record { place = n.place; sequencer = n.sequencer; numbers = n.numbers; counts = n.counts; batches = batches; locks = locks; arrivals = n.arrivals; store = n.store }) (Batch e q ids ∷ ms)
+  pub stands_batch : (batches : Batches) (locks : LockTable) (fresh : List TxnId) → fresh ≡ newly_taken (setting_of n.role) (Batch e q ids) ms → ((key : Key) → queue_at locks key ≡ queue_at n.locks key ++ for_key key (asked (setting_of n.role) n.role.part fresh)) → came batches ≡ slice_set (came n.batches) (e * n.role.config.parts + q) (Some ids) → AreTaken batches → CalvinStands (record { role = n.role; sequencer = n.sequencer; numbers = n.numbers; counts = n.counts; batches = batches; locks = locks; arrivals = n.arrivals; store = n.store }) (Batch e q ids ∷ ms)
   stands_batch batches locks fresh is asks set taken' =
-      let s : Setting = setting_of n.place in
-      let v : Valid s = calvin.valid n.place.config n.place.work.now n.place.valid n.place.ranges in
+      let s : Setting = setting_of n.role in
+      let v : Valid s = calvin.valid n.role.config n.role.work.now n.role.valid n.role.ranges in
       record {
         ordered = stands.ordered;
         sequencer = stands.sequencer;
         fit = ((q, suits), stands.fit);
         numbers = stands.numbers;
         counts = stands.counts;
-        batches = batches_more s v n.place.part ms stands.fit e q ids suits n.batches batches stands.batches set taken';
-        locks = locks_more s v n.place.part ms stands.fit e q ids suits n.locks locks fresh is stands.locks asks;
+        batches = batches_more s v n.role.part ms stands.fit e q ids suits n.batches batches stands.batches set taken';
+        locks = locks_more s v n.role.part ms stands.fit e q ids suits n.locks locks fresh is stands.locks asks;
         arrivals = stands.arrivals;
         versions = stands.versions;
       }
 
 -- Where there was no memory, and the queues are as they were.
-pub stands_back : (n : CalvinNode) (ms : List Msg) (locks : LockTable) → CalvinStands n ms → ((key : Key) → queue_at locks key ≡ queue_at n.locks key) → CalvinStands (record { place = n.place; sequencer = n.sequencer; numbers = n.numbers; counts = n.counts; batches = n.batches; locks = locks; arrivals = n.arrivals; store = n.store }) ms
+pub stands_back : (n : CalvinNode) (ms : List Msg) (locks : LockTable) → CalvinStands n ms → ((key : Key) → queue_at locks key ≡ queue_at n.locks key) → CalvinStands (record { role = n.role; sequencer = n.sequencer; numbers = n.numbers; counts = n.counts; batches = n.batches; locks = locks; arrivals = n.arrivals; store = n.store }) ms
 stands_back n ms locks stands same = record {
   ordered = stands.ordered;
   sequencer = stands.sequencer;
@@ -199,7 +199,7 @@ stands_back n ms locks stands same = record {
 }
 
 -- Other messages that fit are Finished, on which nothing is said.
-pub told_only : (n : CalvinNode) (ms : List Msg) (f : ℕ) (m : Msg) → CalvinStands n ms → Suits (setting_of n.place) n.place.part f m ms → ((e : ℕ) → m ≡ Tick e → ⊥) → ((e q : ℕ) (ids : List TxnId) → m ≡ Batch e q ids → ⊥) → ((x : TxnId) (q : ℕ) (rows : List Keyed) → m ≡ Rows x q rows → ⊥) → (says (setting_of n.place) n.place.part (m ∷ ms) ≡ []) × CalvinStands n (m ∷ ms)
+pub told_only : (n : CalvinNode) (ms : List Msg) (f : ℕ) (m : Msg) → CalvinStands n ms → Suits (setting_of n.role) n.role.part f m ms → ((e : ℕ) → m ≡ Tick e → ⊥) → ((e q : ℕ) (ids : List TxnId) → m ≡ Batch e q ids → ⊥) → ((x : TxnId) (q : ℕ) (rows : List Keyed) → m ≡ Rows x q rows → ⊥) → (says (setting_of n.role) n.role.part (m ∷ ms) ≡ []) × CalvinStands n (m ∷ ms)
 told_only n ms f (Tick e) stands suits no_tick no_batch no_rows = absurd (no_tick e refl)
 told_only n ms f (Batch e q ids) stands suits no_tick no_batch no_rows = absurd (no_batch e q ids refl)
 told_only n ms f (Rows x q rows) stands suits no_tick no_batch no_rows = absurd (no_rows x q rows refl)

@@ -7,7 +7,7 @@ use Rattle.deneva_base.specs.declared.keys.Access.{Access}
 use Rattle.deneva_base.specs.declared.keys.Key.{Key}
 use Rattle.deneva_base.specs.declared.numbers.TxnId.{TxnId}
 use Rattle.server_core.specs.Setting.{Setting}
-use Rattle.calvin_seq.specs.Places.{accesses_at}
+use Rattle.server_core.specs.Roles.{accesses_at}
 use Rattle.calvin_sched.specs.Queues.{is_free, heads}
 use Rattle.calvin_sched.specs.declared.requests.Request.{Request}
 

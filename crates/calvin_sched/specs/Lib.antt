@@ -5,7 +5,6 @@ pub mod Arrivals
 pub mod Versions
 pub mod Asked
 pub mod Reading
-pub mod Loading
 pub mod Standing
 pub mod Freed
 pub mod Known

@@ -12,7 +12,7 @@ use Rattle.server_core.specs.Effects.{leaves}
 use Rattle.server_core.specs.Setting.{Setting, parts_for}
 use Rattle.server_core.specs.declared.messages.Mail.{Mail}
 use Rattle.server_core.specs.declared.messages.Msg.TheVariants as msg
-use Rattle.calvin_seq.specs.Places.{accesses_at}
+use Rattle.server_core.specs.Roles.{accesses_at}
 use Rattle.calvin_sched.specs.Arrivals.{has_come, rows_of_part}
 use Rattle.calvin_sched.specs.declared.arrivals.Arrival.{Arrival}
 

@@ -17,7 +17,8 @@ use Rattle.server_core.specs.declared.messages.Msg.{Msg}
 use Rattle.calvin_sched.specs.Arrivals.{arrivals_at}
 use Rattle.calvin_sched.specs.Asked.{asked}
 use Rattle.calvin_sched.specs.Batches.{came, AreTaken}
-use Rattle.calvin_seq.specs.Places.{role_of, setting_of, place_of}
+use Rattle.server_core.specs.Roles.{role_of, setting_of}
+use Rattle.calvin_seq.specs.Sequencers.{role_in}
 use Rattle.calvin_sched.specs.Queues.{for_key}
 use Rattle.calvin_sched.specs.Tables.{queue_at}
 use Rattle.calvin_sched.specs.Versions.{version}
@@ -55,12 +56,12 @@ abbrev pub HasVersions : Setting → ℕ → Seen → List Msg → Type 0
 HasVersions s p store ms = (key : Key) → version_at store key ≡ cond (eqb (partition_of key s.parts) p) (version s p ms key) None
 
 pub record CalvinStands (n : CalvinNode) (ms : List Msg) : Type 0 where
-  pub ordered : n.place.config.protocol ≡ Calvin
-  pub sequencer : role_of (place_of n.sequencer) ≡ role_of n.place
-  pub fit : AllFit (setting_of n.place) n.place.part ms
-  pub numbers : n.numbers.items ≡ map (number (setting_of n.place)) (setting_of n.place).ids
-  pub counts : n.counts.items ≡ map (λ x. length (parts_for (setting_of n.place) x)) (setting_of n.place).ids
-  pub batches : HasBatches (setting_of n.place) n.batches ms
-  pub locks : HasLocks (setting_of n.place) n.place.part n.locks ms
-  pub arrivals : HasArrivals (setting_of n.place) n.arrivals ms
-  pub versions : HasVersions (setting_of n.place) n.place.part n.store ms
+  pub ordered : n.role.config.protocol ≡ Calvin
+  pub sequencer : role_of (role_in n.sequencer) ≡ role_of n.role
+  pub fit : AllFit (setting_of n.role) n.role.part ms
+  pub numbers : n.numbers.items ≡ map (number (setting_of n.role)) (setting_of n.role).ids
+  pub counts : n.counts.items ≡ map (λ x. length (parts_for (setting_of n.role) x)) (setting_of n.role).ids
+  pub batches : HasBatches (setting_of n.role) n.batches ms
+  pub locks : HasLocks (setting_of n.role) n.role.part n.locks ms
+  pub arrivals : HasArrivals (setting_of n.role) n.arrivals ms
+  pub versions : HasVersions (setting_of n.role) n.role.part n.store ms

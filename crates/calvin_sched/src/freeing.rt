@@ -10,7 +10,7 @@ ghost use Rattle.server_core.specs.CalvinScheduler.{takes_part};
 ghost use Rattle.calvin_sched.specs.Asked.{asked, all_free, requests_of};
 ghost use Rattle.calvin_sched.specs.Freed.{freed_on, freed_by, put_numbers};
 ghost use Rattle.calvin_sched.specs.Known.{HasNumbers, AreKnown};
-ghost use Rattle.calvin_seq.specs.Places.{setting_of};
+ghost use Rattle.server_core.specs.Roles.{setting_of};
 ghost use Rattle.calvin_sched.specs.Queues as queues;
 ghost use Rattle.calvin_sched.specs.Tables.{queue_at};
 
@@ -22,19 +22,19 @@ use std::collections::BTreeSet;
 impl<'w> CalvinNode<'w> {
     /// The number of a transaction.
     pub(crate) fn number(&self, id: TxnId) -> Number
-        requires numbers { HasNumbers self.now.place self.now.numbers.items }
-        requires id { IsIn id (all_ids self.now.place.work.now) }
-        ensures { result ≡ number (setting_of self.now.place) id }
+        requires numbers { HasNumbers self.now.role self.now.numbers.items }
+        requires id { IsIn id (all_ids self.now.role.work.now) }
+        ensures { result ≡ number (setting_of self.now.role) id }
     {
         self.numbers[id.0 as usize - 1]
     }
 
     /// The requests of these transactions for locks here.
     pub(crate) fn requests_of(&self, ids: &[TxnId]) -> Result<Vec<Request>, NoMemory>
-        requires ids { (x : txns.TxnId) → IsIn x ids.now → IsIn x (all_ids self.now.place.work.now) }
-        ensures { IfOk result (λ requests. requests.items ≡ asked (setting_of self.now.place) self.now.place.part ids.now) }
+        requires ids { (x : txns.TxnId) → IsIn x ids.now → IsIn x (all_ids self.now.role.work.now) }
+        ensures { IfOk result (λ requests. requests.items ≡ asked (setting_of self.now.role) self.now.role.part ids.now) }
     {
-        let mut requests = Vec::new(self.place.alloc);
+        let mut requests = Vec::new(self.role.alloc);
         for id in ids {
             self.push_requests(*id, &mut requests)?;
         }
@@ -42,10 +42,10 @@ impl<'w> CalvinNode<'w> {
     }
 
     fn push_requests(&self, id: TxnId, requests: &mut Vec<Request>) -> Result<(), NoMemory>
-        requires id { IsIn id (all_ids self.now.place.work.now) }
-        ensures { OnOk result (requests.new.items ≡ requests.old.items ++ requests_of (setting_of self.now.place) self.now.place.part id) }
+        requires id { IsIn id (all_ids self.now.role.work.now) }
+        ensures { OnOk result (requests.new.items ≡ requests.old.items ++ requests_of (setting_of self.now.role) self.now.role.part id) }
     {
-        for access in self.place.accesses_here(id)?.as_slice() {
+        for access in self.role.accesses_here(id)?.as_slice() {
             requests.push(Request {
                 key: access.key,
                 id,
@@ -71,19 +71,19 @@ impl<'w> CalvinNode<'w> {
 
     /// Whether the transaction takes part here and is ready.
     fn is_ready(&self, id: TxnId) -> Result<bool, NoMemory>
-        requires id { IsIn id (all_ids self.now.place.work.now) }
-        ensures { IfOk result (λ ready. ready ≡ (takes_part (setting_of self.now.place) id self.now.place.part && all_free (setting_of self.now.place) self.now.place.part (queue_at self.now.locks) id None)) }
+        requires id { IsIn id (all_ids self.now.role.work.now) }
+        ensures { IfOk result (λ ready. ready ≡ (takes_part (setting_of self.now.role) id self.now.role.part && all_free (setting_of self.now.role) self.now.role.part (queue_at self.now.locks) id None)) }
     {
-        let accesses = self.place.accesses_here(id)?;
+        let accesses = self.role.accesses_here(id)?;
         Ok(!accesses.is_empty() && self.are_free(id, accesses.as_slice(), None))
     }
 
     /// Those of these transactions that take part here and are ready.
     pub(crate) fn ready(&self, ids: &[TxnId]) -> Result<Vec<TxnId>, NoMemory>
-        requires ids { (x : txns.TxnId) → IsIn x ids.now → IsIn x (all_ids self.now.place.work.now) }
-        ensures { IfOk result (λ ready. ready.items ≡ filter (λ x. takes_part (setting_of self.now.place) x self.now.place.part && all_free (setting_of self.now.place) self.now.place.part (queue_at self.now.locks) x None) ids.now) }
+        requires ids { (x : txns.TxnId) → IsIn x ids.now → IsIn x (all_ids self.now.role.work.now) }
+        ensures { IfOk result (λ ready. ready.items ≡ filter (λ x. takes_part (setting_of self.now.role) x self.now.role.part && all_free (setting_of self.now.role) self.now.role.part (queue_at self.now.locks) x None) ids.now) }
     {
-        let mut ready = Vec::new(self.place.alloc);
+        let mut ready = Vec::new(self.role.alloc);
         for id in ids {
             if self.is_ready(*id)? {
                 ready.push(*id)?;
@@ -94,11 +94,11 @@ impl<'w> CalvinNode<'w> {
 
     /// Whether a transaction with this request becomes ready when one that ends, with this access, leaves the queue.
     fn is_freed(&self, request: &Request, access: Access, ended: TxnId) -> Result<bool, NoMemory>
-        requires id { IsIn request.now.id (all_ids self.now.place.work.now) }
-        ensures { IfOk result (λ freed. freed ≡ ((request.now.writes || writes access.mode) && all_free (setting_of self.now.place) self.now.place.part (queue_at self.now.locks) request.now.id (Some ended))) }
+        requires id { IsIn request.now.id (all_ids self.now.role.work.now) }
+        ensures { IfOk result (λ freed. freed ≡ ((request.now.writes || writes access.mode) && all_free (setting_of self.now.role) self.now.role.part (queue_at self.now.locks) request.now.id (Some ended))) }
     {
         if request.writes || access.mode.is_writing() {
-            let accesses = self.place.accesses_here(request.id)?;
+            let accesses = self.role.accesses_here(request.id)?;
             Ok(self.are_free(request.id, accesses.as_slice(), Some(ended)))
         } else {
             Ok(false)
@@ -112,9 +112,9 @@ impl<'w> CalvinNode<'w> {
         access: Access,
         freed: &mut BTreeSet<Number>,
     ) -> Result<(), NoMemory>
-        requires numbers { HasNumbers self.now.place self.now.numbers.items }
-        requires known { AreKnown self.now.place self.now.locks }
-        ensures { OnOk result (freed.new.keys ≡ put_numbers freed.old.keys (freed_on (setting_of self.now.place) self.now.place.part (queue_at self.now.locks) ended access)) }
+        requires numbers { HasNumbers self.now.role self.now.numbers.items }
+        requires known { AreKnown self.now.role self.now.locks }
+        ensures { OnOk result (freed.new.keys ≡ put_numbers freed.old.keys (freed_on (setting_of self.now.role) self.now.role.part (queue_at self.now.locks) ended access)) }
     {
         for request in self.locks.queue(access.key) {
             if request.id == ended {
@@ -136,11 +136,11 @@ impl<'w> CalvinNode<'w> {
         ended: TxnId,
         accesses: &[Access],
     ) -> Result<BTreeSet<Number>, NoMemory>
-        requires numbers { HasNumbers self.now.place self.now.numbers.items }
-        requires known { AreKnown self.now.place self.now.locks }
-        ensures { IfOk result (λ f. f.keys ≡ put_numbers [] (freed_by (setting_of self.now.place) self.now.place.part (queue_at self.now.locks) ended accesses.now)) }
+        requires numbers { HasNumbers self.now.role self.now.numbers.items }
+        requires known { AreKnown self.now.role self.now.locks }
+        ensures { IfOk result (λ f. f.keys ≡ put_numbers [] (freed_by (setting_of self.now.role) self.now.role.part (queue_at self.now.locks) ended accesses.now)) }
     {
-        let mut freed = BTreeSet::new(self.place.alloc);
+        let mut freed = BTreeSet::new(self.role.alloc);
         for access in accesses {
             self.add_freed(ended, *access, &mut freed)?;
         }

@@ -14,29 +14,28 @@ ghost use Rattle.calvin_sched.specs.Arrivals.{arrivals_at};
 ghost use Rattle.calvin_sched.specs.Asked.{all_free};
 ghost use Rattle.calvin_sched.specs.Freed.{freed_by, put_numbers};
 ghost use Rattle.calvin_sched.specs.Known.{HasNumbers, AreKnown};
-ghost use Rattle.calvin_seq.specs.Places.{setting_of};
+ghost use Rattle.server_core.specs.Roles.{setting_of};
 ghost use Rattle.calvin_sched.specs.Reading.{row_after, mails_after, is_complete};
 ghost use Rattle.calvin_sched.specs.Standing.{CalvinStands};
 ghost use Rattle.calvin_sched.specs.Tables.{queue_at};
 
 use crate::node::CalvinNode;
 use crate::rows::put_left;
-use calvin_seq::{put_all, say_all};
 use deneva_base::{Access, IdList, Keyed, NoMemory, TxnId};
 use server_core::{Mail, MailList, Msg, Outbox, SentRows};
 
 impl<'w> CalvinNode<'w> {
     /// Sends the rows of those of these transactions that are ready.
     fn say_ready(&self, fresh: &[TxnId], out: &mut Outbox) -> Result<(), NoMemory>
-        requires ids { (x : txns.TxnId) → IsIn x fresh.now → IsIn x (all_ids self.now.place.work.now) }
-        ensures ok { OnOk result (out.new.mails ≡ out.old.mails ++ flat_map (mails_after (setting_of self.now.place) self.now.place.part (row_in self.now.store)) (filter (λ x. takes_part (setting_of self.now.place) x self.now.place.part && all_free (setting_of self.now.place) self.now.place.part (queue_at self.now.locks) x None) fresh.now)) }
+        requires ids { (x : txns.TxnId) → IsIn x fresh.now → IsIn x (all_ids self.now.role.work.now) }
+        ensures ok { OnOk result (out.new.mails ≡ out.old.mails ++ flat_map (mails_after (setting_of self.now.role) self.now.role.part (row_in self.now.store)) (filter (λ x. takes_part (setting_of self.now.role) x self.now.role.part && all_free (setting_of self.now.role) self.now.role.part (queue_at self.now.locks) x None) fresh.now)) }
         ensures err { OnErr result (out.new.mails ≡ out.old.mails) }
     {
-        let mut mails = MailList::new(self.place.alloc);
+        let mut mails = MailList::new(self.role.alloc);
         for id in &self.ready(fresh)? {
             self.push_reads(*id, &[], &mut mails)?;
         }
-        say_all(mails, out)
+        out.say_all(mails)
     }
 
     /// Keeps a batch and takes those that are next in the global order: their transactions ask for locks.
@@ -47,15 +46,15 @@ impl<'w> CalvinNode<'w> {
         ids: &IdList,
         out: &mut Outbox,
     ) -> Result<(), NoMemory>
-        requires fits { (ms : List messages.Msg) × CalvinStands self.old ms × Suits (setting_of self.old.place) self.old.place.part seq (msg.Batch epoch seq ids.now) ms }
-        ensures place { self.new.place ≡ self.old.place }
-        ensures says { OnOk result ((ms : List messages.Msg) → CalvinStands self.old ms → Suits (setting_of self.old.place) self.old.place.part seq (msg.Batch epoch seq ids.now) ms → out.new.mails ≡ out.old.mails ++ says (setting_of self.old.place) self.old.place.part (msg.Batch epoch seq ids.now ∷ ms)) }
-        ensures stands { OnOk result ((ms : List messages.Msg) → CalvinStands self.old ms → Suits (setting_of self.old.place) self.old.place.part seq (msg.Batch epoch seq ids.now) ms → CalvinStands self.new (msg.Batch epoch seq ids.now ∷ ms)) }
+        requires fits { (ms : List messages.Msg) × CalvinStands self.old ms × Suits (setting_of self.old.role) self.old.role.part seq (msg.Batch epoch seq ids.now) ms }
+        ensures role { self.new.role ≡ self.old.role }
+        ensures says { OnOk result ((ms : List messages.Msg) → CalvinStands self.old ms → Suits (setting_of self.old.role) self.old.role.part seq (msg.Batch epoch seq ids.now) ms → out.new.mails ≡ out.old.mails ++ says (setting_of self.old.role) self.old.role.part (msg.Batch epoch seq ids.now ∷ ms)) }
+        ensures stands { OnOk result ((ms : List messages.Msg) → CalvinStands self.old ms → Suits (setting_of self.old.role) self.old.role.part seq (msg.Batch epoch seq ids.now) ms → CalvinStands self.new (msg.Batch epoch seq ids.now ∷ ms)) }
         ensures same_mails { OnErr result (out.new.mails ≡ out.old.mails) }
         ensures same { OnErr result ((ms : List messages.Msg) → CalvinStands self.old ms → CalvinStands self.new ms) }
     {
-        let slot = epoch as usize * usize::from(self.place.config.parts) + usize::from(seq);
-        let kept = ids.copy(self.place.alloc)?;
+        let slot = epoch as usize * usize::from(self.role.config.parts) + usize::from(seq);
+        let kept = ids.copy(self.role.alloc)?;
         let fresh = self.batches.taken_with(slot, ids.as_slice())?;
         let requests = self.requests_of(&fresh)?;
         self.locks.ask_all(&requests)?;
@@ -74,17 +73,17 @@ impl<'w> CalvinNode<'w> {
     /// What is said when a transaction finishes: to its home that it has, and the rows of those that become ready, in the
     /// order of their numbers.
     fn last_mails(&self, id: TxnId, here: &[Access], left: &[Keyed]) -> Result<MailList, NoMemory>
-        requires id { IsIn id (all_ids self.now.place.work.now) }
-        requires numbers { HasNumbers self.now.place self.now.numbers.items }
-        requires known { AreKnown self.now.place self.now.locks }
-        ensures { IfOk result (λ mails. mails ≡ finished_mail (setting_of self.now.place) self.now.place.part id ∷ flat_map (λ n. mails_after (setting_of self.now.place) self.now.place.part (row_after (row_in self.now.store) left.now) n.id) (put_numbers [] (freed_by (setting_of self.now.place) self.now.place.part (queue_at self.now.locks) id here.now))) }
+        requires id { IsIn id (all_ids self.now.role.work.now) }
+        requires numbers { HasNumbers self.now.role self.now.numbers.items }
+        requires known { AreKnown self.now.role self.now.locks }
+        ensures { IfOk result (λ mails. mails ≡ finished_mail (setting_of self.now.role) self.now.role.part id ∷ flat_map (λ n. mails_after (setting_of self.now.role) self.now.role.part (row_after (row_in self.now.store) left.now) n.id) (put_numbers [] (freed_by (setting_of self.now.role) self.now.role.part (queue_at self.now.locks) id here.now))) }
     {
-        let part = self.place.part;
-        let mut mails = MailList::new(self.place.alloc);
+        let part = self.role.part;
+        let mut mails = MailList::new(self.role.alloc);
         let number = self.number(id);
         mails.push(Mail {
             from: part,
-            to: self.place.home(id),
+            to: self.role.home(id),
             msg: Msg::Finished { id, part, number },
         })?;
         for number in &self.freed(id, here)? {
@@ -101,16 +100,16 @@ impl<'w> CalvinNode<'w> {
         rows: &SentRows,
         out: &mut Outbox,
     ) -> Result<(), NoMemory>
-        requires fits { (ms : List messages.Msg) × CalvinStands self.old ms × Suits (setting_of self.old.place) self.old.place.part part (msg.Rows id part rows.now) ms }
-        requires complete { is_complete (setting_of self.old.place) (arrivals_at self.old.arrivals id) part id ≡ true }
-        ensures place { self.new.place ≡ self.old.place }
-        ensures says { OnOk result ((ms : List messages.Msg) → CalvinStands self.old ms → Suits (setting_of self.old.place) self.old.place.part part (msg.Rows id part rows.now) ms → out.new.mails ≡ out.old.mails ++ says (setting_of self.old.place) self.old.place.part (msg.Rows id part rows.now ∷ ms)) }
-        ensures stands { OnOk result ((ms : List messages.Msg) → CalvinStands self.old ms → Suits (setting_of self.old.place) self.old.place.part part (msg.Rows id part rows.now) ms → CalvinStands self.new (msg.Rows id part rows.now ∷ ms)) }
+        requires fits { (ms : List messages.Msg) × CalvinStands self.old ms × Suits (setting_of self.old.role) self.old.role.part part (msg.Rows id part rows.now) ms }
+        requires complete { is_complete (setting_of self.old.role) (arrivals_at self.old.arrivals id) part id ≡ true }
+        ensures role { self.new.role ≡ self.old.role }
+        ensures says { OnOk result ((ms : List messages.Msg) → CalvinStands self.old ms → Suits (setting_of self.old.role) self.old.role.part part (msg.Rows id part rows.now) ms → out.new.mails ≡ out.old.mails ++ says (setting_of self.old.role) self.old.role.part (msg.Rows id part rows.now ∷ ms)) }
+        ensures stands { OnOk result ((ms : List messages.Msg) → CalvinStands self.old ms → Suits (setting_of self.old.role) self.old.role.part part (msg.Rows id part rows.now) ms → CalvinStands self.new (msg.Rows id part rows.now ∷ ms)) }
         ensures same_mails { OnErr result (out.new.mails ≡ out.old.mails) }
         ensures same { OnErr result ((ms : List messages.Msg) → CalvinStands self.old ms → CalvinStands self.new ms) }
     {
         let number = self.number(id);
-        let here = self.place.accesses_here(id)?;
+        let here = self.role.accesses_here(id)?;
         let left = self.left_here(id, part, rows.as_slice())?;
         let mails = self.last_mails(id, here.as_slice(), left.as_slice())?;
         self.store.reserve(left.len())?;
@@ -118,7 +117,7 @@ impl<'w> CalvinNode<'w> {
         self.locks.leave(id, here.as_slice());
         self.arrivals.forget(id);
         put_left(&mut self.store, number, left);
-        put_all(mails, out);
+        out.put_all(mails);
         Ok(())
     }
 
@@ -130,10 +129,10 @@ impl<'w> CalvinNode<'w> {
         rows: &SentRows,
         out: &mut Outbox,
     ) -> Result<(), NoMemory>
-        requires fits { (ms : List messages.Msg) × CalvinStands self.old ms × Suits (setting_of self.old.place) self.old.place.part part (msg.Rows id part rows.now) ms }
-        ensures place { self.new.place ≡ self.old.place }
-        ensures says { OnOk result ((ms : List messages.Msg) → CalvinStands self.old ms → Suits (setting_of self.old.place) self.old.place.part part (msg.Rows id part rows.now) ms → out.new.mails ≡ out.old.mails ++ says (setting_of self.old.place) self.old.place.part (msg.Rows id part rows.now ∷ ms)) }
-        ensures stands { OnOk result ((ms : List messages.Msg) → CalvinStands self.old ms → Suits (setting_of self.old.place) self.old.place.part part (msg.Rows id part rows.now) ms → CalvinStands self.new (msg.Rows id part rows.now ∷ ms)) }
+        requires fits { (ms : List messages.Msg) × CalvinStands self.old ms × Suits (setting_of self.old.role) self.old.role.part part (msg.Rows id part rows.now) ms }
+        ensures role { self.new.role ≡ self.old.role }
+        ensures says { OnOk result ((ms : List messages.Msg) → CalvinStands self.old ms → Suits (setting_of self.old.role) self.old.role.part part (msg.Rows id part rows.now) ms → out.new.mails ≡ out.old.mails ++ says (setting_of self.old.role) self.old.role.part (msg.Rows id part rows.now ∷ ms)) }
+        ensures stands { OnOk result ((ms : List messages.Msg) → CalvinStands self.old ms → Suits (setting_of self.old.role) self.old.role.part part (msg.Rows id part rows.now) ms → CalvinStands self.new (msg.Rows id part rows.now ∷ ms)) }
         ensures same_mails { OnErr result (out.new.mails ≡ out.old.mails) }
         ensures same { OnErr result ((ms : List messages.Msg) → CalvinStands self.old ms → CalvinStands self.new ms) }
     {

@@ -2,17 +2,17 @@
 ghost use Rattle.std.specs.Prelude.{◌≡◌};
 ghost use Rattle.deneva_base.specs.declared.config.Protocol.TheVariants.{Calvin};
 ghost use Rattle.calvin_laws.proofs.NodeLaws.{mails_fit, runs_end, mails_land, rows_kept_apart};
-ghost use Rattle.calvin_seq.specs.Places.{role_of};
+ghost use Rattle.server_core.specs.Roles.{role_of};
 ghost use Rattle.calvin_sched.specs.Standing.{CalvinStands};
 
 use crate::arrivals::Arrivals;
 use crate::batches::Batches;
 use crate::locks::LockTable;
 use crate::rows::store_of;
-use calvin_seq::{Place, Sequencer, epochs, numbers_of, participant_counts};
+use calvin_seq::{Sequencer, epochs, numbers_of, participant_counts};
 use deneva_base::{Config, NoMemory, Number, Protocol, RowList};
 use row_store::Store;
-use server_core::{Handles, Msg, Outbox, Server};
+use server_core::{Handles, Msg, Outbox, Role, Server};
 use std::alloc::Global;
 use txn_program::Workload;
 
@@ -20,7 +20,7 @@ use txn_program::Workload;
 /// grants locks in that order, exchanges rows with the other participants, and applies what each transaction leaves here.
 #[derive(Drop)]
 pub struct CalvinNode<'w> {
-    pub(crate) place: Place<'w>,
+    pub(crate) role: Role<'w>,
     pub(crate) sequencer: Sequencer<'w>,
     /// The number of each transaction, by its id.
     pub(crate) numbers: Vec<Number>,
@@ -33,7 +33,7 @@ pub struct CalvinNode<'w> {
 }
 
 impl<'w> Handles for CalvinNode<'w> {
-    ghost role = { λ n. role_of n.place };
+    ghost role = { λ n. role_of n.role };
 
     ghost protocol = { Calvin };
 
@@ -74,16 +74,17 @@ impl<'w> Server<'w> for CalvinNode<'w> {
         part: u8,
         work: &'w Workload,
     ) -> Result<Self, NoMemory> {
+        let role = Role::new(alloc, config, part, work);
         let count = epochs(work, config.parts) as usize * usize::from(config.parts);
         Ok(CalvinNode {
-            place: Place::new(alloc, config, part, work),
+            role,
             sequencer: Sequencer::begin(alloc, config, part, work)?,
             numbers: numbers_of(alloc, work, config.parts)?,
             counts: participant_counts(alloc, work, config.parts)?,
             batches: Batches::begin(alloc, count)?,
             locks: LockTable::new(alloc),
             arrivals: Arrivals::new(alloc),
-            store: store_of(alloc, work, config.parts, part)?,
+            store: store_of(&role)?,
         })
     }
 }

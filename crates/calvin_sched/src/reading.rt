@@ -11,13 +11,13 @@ ghost use Rattle.server_core.specs.CalvinFits.{Suits};
 ghost use Rattle.server_core.specs.Effects.{leaves};
 ghost use Rattle.server_core.specs.declared.messages.Msg as messages;
 ghost use Rattle.server_core.specs.declared.messages.Msg.TheVariants as msg;
-ghost use Rattle.calvin_seq.specs.Places.{setting_of};
+ghost use Rattle.server_core.specs.Roles.{setting_of};
 ghost use Rattle.calvin_sched.specs.Reading.{row_after, reads_after, mails_after, rows_with, is_complete, collected_from, left_at};
 ghost use Rattle.calvin_sched.specs.Standing.{CalvinStands};
 
 use crate::arrivals::rows_of_part;
 use crate::node::CalvinNode;
-use deneva_base::{Key, Keyed, NoMemory, Row, RowList, TxnId, part_of};
+use deneva_base::{Key, Keyed, NoMemory, Row, RowList, TxnId, partition_of};
 use row_store::Store;
 use server_core::{MailList, Msg, SentRows};
 use std::alloc::Global;
@@ -66,12 +66,12 @@ fn lasting(alloc: Global, effect: Effect) -> Result<RowList, NoMemory>
 impl<'w> CalvinNode<'w> {
     /// The rows that a transaction reads here, where another one left these.
     fn reads(&self, id: TxnId, left: &[Keyed]) -> Result<RowList, NoMemory>
-        requires id { IsIn id (all_ids self.now.place.work.now) }
-        ensures { IfOk result (λ rows. rows ≡ reads_after (setting_of self.now.place) self.now.place.part (row_after (row_in self.now.store) left.now) id) }
+        requires id { IsIn id (all_ids self.now.role.work.now) }
+        ensures { IfOk result (λ rows. rows ≡ reads_after (setting_of self.now.role) self.now.role.part (row_after (row_in self.now.store) left.now) id) }
     {
-        let alloc = self.place.alloc;
+        let alloc = self.role.alloc;
         let mut rows = RowList::new(alloc);
-        for access in self.place.accesses_here(id)?.as_slice() {
+        for access in self.role.accesses_here(id)?.as_slice() {
             if access.mode.is_reading() {
                 let key = access.key;
                 let row = match row_after(&self.store, left, key) {
@@ -91,22 +91,22 @@ impl<'w> CalvinNode<'w> {
         left: &[Keyed],
         mails: &mut MailList,
     ) -> Result<(), NoMemory>
-        requires id { IsIn id (all_ids self.now.place.work.now) }
-        ensures { OnOk result (mails.new ≡ mails.old ++ mails_after (setting_of self.now.place) self.now.place.part (row_after (row_in self.now.store) left.now) id) }
+        requires id { IsIn id (all_ids self.now.role.work.now) }
+        ensures { OnOk result (mails.new ≡ mails.old ++ mails_after (setting_of self.now.role) self.now.role.part (row_after (row_in self.now.store) left.now) id) }
     {
         let msg = Msg::Rows {
             id,
-            part: self.place.part,
-            rows: SentRows::of(self.place.alloc, self.reads(id, left)?)?,
+            part: self.role.part,
+            rows: SentRows::of(self.role.alloc, self.reads(id, left)?)?,
         };
-        let parts = self.place.parts(id)?;
-        self.place.push_to_all(mails, &msg, parts.as_slice())
+        let participants = self.role.participants(id)?;
+        self.role.push_to_all(mails, &msg, participants.as_slice())
     }
 
     /// Whether the rows that came for the transaction are those of all its participants but one.
     pub(crate) fn is_complete(&self, id: TxnId) -> bool
-        requires fits { (q : ℕ) × (rows : List keyed.Keyed) × (ms : List messages.Msg) × CalvinStands self.now ms × Suits (setting_of self.now.place) self.now.place.part q (msg.Rows id q rows) ms }
-        ensures { (q : ℕ) (rows : List keyed.Keyed) (ms : List messages.Msg) → CalvinStands self.now ms → Suits (setting_of self.now.place) self.now.place.part q (msg.Rows id q rows) ms → result ≡ is_complete (setting_of self.now.place) (arrivals_at self.now.arrivals id) q id }
+        requires fits { (q : ℕ) × (rows : List keyed.Keyed) × (ms : List messages.Msg) × CalvinStands self.now ms × Suits (setting_of self.now.role) self.now.role.part q (msg.Rows id q rows) ms }
+        ensures { (q : ℕ) (rows : List keyed.Keyed) (ms : List messages.Msg) → CalvinStands self.now ms → Suits (setting_of self.now.role) self.now.role.part q (msg.Rows id q rows) ms → result ≡ is_complete (setting_of self.now.role) (arrivals_at self.now.arrivals id) q id }
     {
         self.arrivals.of(id).len() + 1 == usize::from(self.counts[id.0 as usize - 1])
     }
@@ -118,15 +118,15 @@ impl<'w> CalvinNode<'w> {
         part: u8,
         rows: &'r [Keyed],
     ) -> Result<Vec<ReadRow<'r>>, NoMemory>
-        requires id { IsIn id (all_ids self.now.place.work.now) }
-        ensures { IfOk result (λ list. map as_read list.items ≡ collected_from (setting_of self.now.place) (rows_with (arrivals_at self.now.arrivals id) part rows.now) id) }
+        requires id { IsIn id (all_ids self.now.role.work.now) }
+        ensures { IfOk result (λ list. map as_read list.items ≡ collected_from (setting_of self.now.role) (rows_with (arrivals_at self.now.arrivals id) part rows.now) id) }
     {
         let arrived = self.arrivals.of(id);
-        let mut collected = Vec::new(self.place.alloc);
-        for access in self.place.accesses(id)?.as_slice() {
+        let mut collected = Vec::new(self.role.alloc);
+        for access in self.role.accesses(id)?.as_slice() {
             if access.mode.is_reading() {
                 let key = access.key;
-                let from = part_of(key, self.place.config.parts);
+                let from = partition_of(key, self.role.config.parts);
                 let came = if from == part {
                     rows
                 } else {
@@ -141,11 +141,11 @@ impl<'w> CalvinNode<'w> {
 
     /// The rows that the transaction leaves here, by what came for it, the last of it from `part`.
     pub(crate) fn left_here(&self, id: TxnId, part: u8, rows: &[Keyed]) -> Result<RowList, NoMemory>
-        requires id { IsIn id (all_ids self.now.place.work.now) }
-        ensures { IfOk result (λ left. left ≡ left_at (setting_of self.now.place) self.now.place.part id (collected_from (setting_of self.now.place) (rows_with (arrivals_at self.now.arrivals id) part rows.now) id)) }
+        requires id { IsIn id (all_ids self.now.role.work.now) }
+        ensures { IfOk result (λ left. left ≡ left_at (setting_of self.now.role) self.now.role.part id (collected_from (setting_of self.now.role) (rows_with (arrivals_at self.now.arrivals id) part rows.now) id)) }
     {
         let collected = self.collect(id, part, rows)?;
-        let effect = self.place.effect_here(id, &collected)?;
-        lasting(self.place.alloc, effect)
+        let effect = self.role.effect_here(id, &collected)?;
+        lasting(self.role.alloc, effect)
     }
 }

@@ -1,5 +1,4 @@
 pub mod Places
-pub mod Placing
 pub mod Eights
 pub mod Counts
 pub mod Parts

@@ -6,7 +6,7 @@ ghost use Rattle.txn_program.specs.Serial.{all_ids};
 ghost use Rattle.txn_program.specs.Valid.{IsValid};
 ghost use Rattle.server_core.specs.GlobalOrder as global;
 ghost use Rattle.server_core.specs.GlobalOrder.{numbered};
-ghost use Rattle.server_core.specs.Setting.{setting, home, homes};
+ghost use Rattle.server_core.specs.Setting.{setting, home};
 
 use deneva_base::{NoMemory, Number, TxnId};
 use std::alloc::Global;
@@ -90,25 +90,4 @@ pub fn numbers_of(alloc: Global, work: &Workload, parts: u8) -> Result<Vec<Numbe
         })?;
     }
     Ok(numbers)
-}
-
-/// The transactions whose home is the node, in file order.
-pub(crate) fn homes_of(
-    alloc: Global,
-    work: &Workload,
-    parts: u8,
-    part: u8,
-) -> Result<Vec<TxnId>, NoMemory>
-    requires valid { IsValid work.now }
-    requires parts { 1 ≤ parts }
-    ensures { IfOk result (λ v. (c : Config) → c.parts ≡ parts → v.items ≡ homes (setting c work.now) part) }
-{
-    let mut homes = Vec::new(alloc);
-    for at in 0..work.programs.len() {
-        let program = work.programs.get(at);
-        if home(&work.load, program, parts) == part {
-            homes.push(TxnId(at as u32 + 1))?;
-        }
-    }
-    Ok(homes)
 }

@@ -1,11 +1,10 @@
 //! Workers may move and share what this crate declares: each call below asks the check for it.
 
-use crate::{Place, Sequencer};
+use crate::Sequencer;
 
 fn crosses<X: Send + Sync>() {}
 
-/// Each type may be moved to another thread and shared between threads.
+/// It may be moved to another thread and shared between threads.
 fn may_cross_threads() {
-    crosses::<Place>();
     crosses::<Sequencer>();
 }

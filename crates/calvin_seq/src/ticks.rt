@@ -7,14 +7,13 @@ ghost use Rattle.server_core.specs.GlobalOrder.{Slot, batch, epochs};
 ghost use Rattle.server_core.specs.Setting.{setting, homes};
 ghost use Rattle.server_core.specs.declared.messages.Msg as messages;
 ghost use Rattle.server_core.specs.declared.messages.Msg.TheVariants.{Tick};
-ghost use Rattle.calvin_seq.specs.Places.{role_of, setting_of, place_of};
+ghost use Rattle.server_core.specs.Roles.{role_of, setting_of};
+ghost use Rattle.calvin_seq.specs.Sequencers.{role_in};
 
-use crate::order::{BATCH, epochs as epochs_of, homes_of};
-use crate::place::Place;
-use crate::saying::say_all;
+use crate::order::{BATCH, epochs as epochs_of};
 use crate::sequencer::Sequencer;
 use deneva_base::{Config, IdList, NoMemory, TxnId};
-use server_core::{Mail, MailList, Msg, Outbox};
+use server_core::{Mail, MailList, Msg, Outbox, Role};
 use std::alloc::Global;
 use txn_program::Workload;
 
@@ -29,12 +28,13 @@ impl<'w> Sequencer<'w> {
         requires config { IsConfig config }
         requires valid { IsValid work.now }
         requires part { part < config.parts }
-        ensures { IfOk result (λ s. role_of (place_of s) ≡ record { config = config; work = work.now; part = part }) }
+        ensures { IfOk result (λ s. role_of (role_in s) ≡ record { config = config; work = work.now; part = part }) }
     {
-        let homes = homes_of(alloc, work, config.parts, part)?;
+        let role = Role::new(alloc, config, part, work);
+        let homes = role.homes()?;
         let epochs = epochs_of(work, config.parts);
         Ok(Sequencer {
-            place: Place::new(alloc, config, part, work),
+            role,
             homes,
             epochs,
         })
@@ -42,10 +42,10 @@ impl<'w> Sequencer<'w> {
 
     /// The transactions of an epoch, in file order: at most eight.
     fn batch(&self, epoch: u32) -> Result<IdList, NoMemory>
-        requires epoch { epoch < epochs (setting_of (place_of self.now)) }
-        ensures { IfOk result (λ ids. ids ≡ batch (setting_of (place_of self.now)) (record { epoch = epoch; seq = (place_of self.now).part })) }
+        requires epoch { epoch < epochs (setting_of (role_in self.now)) }
+        ensures { IfOk result (λ ids. ids ≡ batch (setting_of (role_in self.now)) (record { epoch = epoch; seq = (role_in self.now).part })) }
     {
-        let mut ids = IdList::new(self.place.alloc);
+        let mut ids = IdList::new(self.role.alloc);
         let first = epoch as usize * BATCH;
         for at in first..self.homes.len().min(first + BATCH) {
             ids.push(self.homes[at])?;
@@ -56,16 +56,16 @@ impl<'w> Sequencer<'w> {
     /// Closes an epoch: its batch, which may be empty, goes to each node, and the sequencer tells itself to close the
     /// next epoch, if there is one.
     pub fn tick(&self, epoch: u32, out: &mut Outbox) -> Result<(), NoMemory>
-        requires epoch { epoch < epochs (setting_of (place_of self.now)) }
-        ensures ok { OnOk result ((ms : List messages.Msg) → out.new.mails ≡ out.old.mails ++ says (setting_of (place_of self.now)) (place_of self.now).part (Tick epoch ∷ ms)) }
+        requires epoch { epoch < epochs (setting_of (role_in self.now)) }
+        ensures ok { OnOk result ((ms : List messages.Msg) → out.new.mails ≡ out.old.mails ++ says (setting_of (role_in self.now)) (role_in self.now).part (Tick epoch ∷ ms)) }
         ensures err { OnErr result (out.new.mails ≡ out.old.mails) }
     {
-        let Place {
+        let Role {
             alloc,
             config,
             part,
             ..
-        } = self.place;
+        } = self.role;
         let mut nodes = Vec::new(alloc);
         for node in 0..config.parts {
             nodes.push(node)?;
@@ -76,7 +76,7 @@ impl<'w> Sequencer<'w> {
             ids: self.batch(epoch)?,
         };
         let mut mails = MailList::new(alloc);
-        self.place.push_to_all(&mut mails, &batch, &nodes)?;
+        self.role.push_to_all(&mut mails, &batch, &nodes)?;
         if epoch + 1 < self.epochs {
             mails.push(Mail {
                 from: part,
@@ -84,6 +84,6 @@ impl<'w> Sequencer<'w> {
                 msg: Msg::Tick { epoch: epoch + 1 },
             })?;
         }
-        say_all(mails, out)
+        out.say_all(mails)
     }
 }

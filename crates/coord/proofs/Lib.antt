@@ -7,8 +7,6 @@ pub mod Closing
 pub mod Starting
 pub mod Deciding
 pub mod OneMore
-pub mod Places
-pub mod Placing
 pub mod Votes
 pub mod Opens
 pub mod Ending

@@ -7,14 +7,13 @@ use Rattle.deneva_base.specs.declared.numbers.Number.{Number}
 use Rattle.deneva_base.specs.declared.numbers.TxnId.{TxnId}
 use Rattle.deneva_base.specs.Rows.{Row}
 use Rattle.server_core.specs.Coordinator.{coordinator, overs}
-use Rattle.server_core.specs.Roles.{FitsRole}
+use Rattle.server_core.specs.Roles.{FitsRole, setting_of}
 use Rattle.server_core.specs.Setting.{Setting}
 use Rattle.server_core.specs.Stamps.{counter}
 use Rattle.server_core.specs.declared.messages.Mail.{Mail}
 use Rattle.server_core.specs.declared.messages.Msg.{Msg}
 use Rattle.server_core.specs.declared.messages.Msg.TheVariants.{Start, Ask, Granted, Refused, Prepare, Yes, No, Commit, Abort, Done, Undone}
 use Rattle.coord.specs.declared.coord.Coord.{Coord}
-use Rattle.coord.specs.Attempts.{setting_at}
 use Rattle.coord.specs.Open.{state_at}
 use Rattle.coord.specs.Standing.{role_of, Coordinates, is_call}
 use Rattle.coord.proofs.Steps.{suits}
@@ -60,21 +59,21 @@ quiet s p (Ask who stamp key mode) ms e = record { says = refl; other = λ x. re
 quiet s p m ms e = record { says = refl; other = λ x. refl; counts = refl; over = refl }
 
 module _ (c : Coord) (ms : List Msg) (m : Msg) (e : is_for_home m ≡ false) where
-  pub quiet_says : (mails : List Mail) → mails ≡ mails ++ coordinator (setting_at c.home) c.home.part m ms
-  quiet_says mails = sym (append-nil mails) ∙ ap (λ l. mails ++ l) (sym (quiet (setting_at c.home) c.home.part m ms e).says)
+  pub quiet_says : (mails : List Mail) → mails ≡ mails ++ coordinator (setting_of c.role) c.role.part m ms
+  quiet_says mails = sym (append-nil mails) ∙ ap (λ l. mails ++ l) (sym (quiet (setting_of c.role) c.role.part m ms e).says)
 
   pub quiet_stands : (from : ℕ) → Coordinates c ms → FitsRole (role_of c) from m ms → Coordinates c (m ∷ ms)
   quiet_stands from co fits =
-      let q = quiet (setting_at c.home) c.home.part m ms e in
+      let q = quiet (setting_of c.role) c.role.part m ms e in
       record {
         voting = co.voting;
         keeps = co.keeps;
-        fit = ((from, suits c.home c.fixed c.counter c.homes.items c.next (state_at c.open) ms co m from fits), co.fit);
+        fit = ((from, suits c.role c.fixed c.counter c.homes.items c.next (state_at c.open) ms co m from fits), co.fit);
         count = co.count ∙ sym q.counts;
         small = let less = co.small in omega (arith, less);
         order = co.order;
-        place = co.place ∙ ap (λ n. (setting_at c.home).limit + n) (sym q.over);
-        follows = λ x. follows_other (setting_at c.home) c.home.part x (state_at c.open x) m ms (q.other x) (co.follows x);
+        place = co.place ∙ ap (λ n. (setting_of c.role).limit + n) (sym q.over);
+        follows = λ x. follows_other (setting_of c.role) c.role.part x (state_at c.open x) m ms (q.other x) (co.follows x);
       }
 
 call_is_other : (m : Msg) → is_call m ≡ true → is_for_home m ≡ false

@@ -7,9 +7,6 @@ use Rattle.deneva_base.specs.declared.keys.Access.{Access}
 use Rattle.deneva_base.specs.declared.numbers.Attempt.{Attempt}
 use Rattle.deneva_base.specs.declared.numbers.TxnId.{TxnId}
 use Rattle.deneva_base.specs.Keys.{id_eq}
-use Rattle.txn_program.specs.Placed.{ArePlaced}
-use Rattle.txn_program.specs.Serial.{program_of}
-use Rattle.txn_program.proofs.Placing.{accesses_placed}
 use Rattle.server_core.specs.Coordinator.{coordinator, overs, told}
 use Rattle.server_core.specs.Family.{Family, family}
 use Rattle.server_core.specs.Fits.{FitsBy}
@@ -20,13 +17,13 @@ use Rattle.server_core.specs.Small.{SmallCause}
 use Rattle.server_core.specs.Stamps.{counter, raised, stamp_from, stamped}
 use Rattle.server_core.specs.VotingFits.{Suits}
 use Rattle.server_core.specs.declared.messages.Msg.{Msg}
+use Rattle.server_core.specs.declared.role.Role.{Role}
 use Rattle.server_core.specs.declared.messages.Msg.TheVariants.{Start, Done, Undone}
 use Rattle.server_core.proofs.counts.Prepares.{slice_none}
 use Rattle.server_core.proofs.configured.Families.{family_votes}
 use Rattle.server_core.proofs.configured.ValidSettings.{valid}
 use Rattle.coord.specs.declared.coord.Coord.{Coord}
-use Rattle.coord.specs.declared.home.Home.{Home}
-use Rattle.coord.specs.Attempts.{setting_at}
+use Rattle.server_core.specs.Roles.{setting_of}
 use Rattle.coord.specs.Following.{turns_of, IsCurrent, Follows}
 use Rattle.coord.specs.Moves.{Moved}
 use Rattle.coord.specs.Open.{state_at}
@@ -61,22 +58,19 @@ raised_few parts n k (Younger key by age) one small e = e
 raised_few parts n k (EmptyRange lo lp hi hp) one small e = e
 raised_few parts n k (Apart lo lp hi hp) one small e = e
 
-module _ (h : Home) (fixed : Bool) (counter' : ℕ) (homes' : List TxnId) (next' : ℕ) (open' : TxnId → Option State) (ms : List Msg) (co : Stands h fixed counter' homes' next' open' ms) where
+module _ (h : Role) (fixed : Bool) (counter' : ℕ) (homes' : List TxnId) (next' : ℕ) (open' : TxnId → Option State) (ms : List Msg) (co : Stands h fixed counter' homes' next' open' ms) where
   abbrev s : Setting
-  s = setting_at h
+  s = setting_of h
 
-  pub is_valid : Valid (setting_at h)
+  pub is_valid : Valid (setting_of h)
   is_valid = valid h.config h.work.now h.ranges h.valid co.voting
 
-  -- an open transaction has its accesses, each at a partition
-  pub is_current : (x : TxnId) (t : State) → open' x ≡ Some t → IsCurrent (setting_at h) x (turns_of (setting_at h) h.part ms x) t
+  -- an open transaction has its accesses
+  pub is_current : (x : TxnId) (t : State) → open' x ≡ Some t → IsCurrent (setting_of h) x (turns_of (setting_of h) h.part ms x) t
   is_current x t is = subst (λ o. Follows s x (turns_of s h.part ms x) o) is (co.follows x)
 
-  pub are_placed : (x : TxnId) (t : State) → open' x ≡ Some t → ArePlaced t.accesses
-  are_placed x t is = subst ArePlaced (sym (is_current x t is).accesses) (accesses_placed h.work.now.load (program_of h.work.now x))
-
-  module _ (m : Msg) (from : ℕ) (fits : FitsBy ((family h.config.protocol).suits (setting_at h)) h.part from m ms) where
-    pub suits : Suits (setting_at h) h.part from m ms
+  module _ (m : Msg) (from : ℕ) (fits : FitsBy ((family h.config.protocol).suits (setting_of h)) h.part from m ms) where
+    pub suits : Suits (setting_of h) h.part from m ms
     suits = subst (λ (f : Family). f.suits s h.part from m ms) (family_votes h.config.protocol co.voting) fits.suits
 
     pub few_stamps : counter' ≤ 2 ^ 49
@@ -86,7 +80,7 @@ module _ (h : Home) (fixed : Bool) (counter' : ℕ) (homes' : List TxnId) (next'
     few_over = omega (arith, co.place, overs_few s ms, fits.short, h.ranges.few_open)
 
     -- what it stands for with the message, where its transaction has this
-    pub stands_with : (x : TxnId) (o : Option State) (counter2 next2 : ℕ) (open2 : TxnId → Option State) → ((y : TxnId) → id_eq x y ≡ false → touches y m ≡ false) → ((y : TxnId) → open2 y ≡ cond (id_eq x y) o (open' y)) → Follows (setting_at h) x (turns_of (setting_at h) h.part (m ∷ ms) x) o → counter2 ≡ counter (setting_at h) (m ∷ ms) → counter2 ≤ 2 ^ 48 + length (m ∷ ms) → next2 ≡ (setting_at h).limit + overs (setting_at h) (m ∷ ms) → Stands h fixed counter2 homes' next2 open2 (m ∷ ms)
+    pub stands_with : (x : TxnId) (o : Option State) (counter2 next2 : ℕ) (open2 : TxnId → Option State) → ((y : TxnId) → id_eq x y ≡ false → touches y m ≡ false) → ((y : TxnId) → open2 y ≡ cond (id_eq x y) o (open' y)) → Follows (setting_of h) x (turns_of (setting_of h) h.part (m ∷ ms) x) o → counter2 ≡ counter (setting_of h) (m ∷ ms) → counter2 ≤ 2 ^ 48 + length (m ∷ ms) → next2 ≡ (setting_of h).limit + overs (setting_of h) (m ∷ ms) → Stands h fixed counter2 homes' next2 open2 (m ∷ ms)
     stands_with x o counter2 next2 open2 other sets mine counts small place = record {
       voting = co.voting;
       keeps = co.keeps;
@@ -103,7 +97,7 @@ module _ (h : Home) (fixed : Bool) (counter' : ℕ) (homes' : List TxnId) (next'
     }
 
   -- a Start
-  module _ (who : Attempt) (from : ℕ) (fits : FitsBy ((family h.config.protocol).suits (setting_at h)) h.part from (Start who) ms) where
+  module _ (who : Attempt) (from : ℕ) (fits : FitsBy ((family h.config.protocol).suits (setting_of h)) h.part from (Start who) ms) where
     abbrev stamp : ℕ
     stamp = cond (eqb who.turn 1 || not fixed) (counter' * h.config.parts + h.part + 1) (kept_stamp (open' who.txn))
 
@@ -114,7 +108,7 @@ module _ (h : Home) (fixed : Bool) (counter' : ℕ) (homes' : List TxnId) (next'
         go true e = ap (λ n. n * h.config.parts + h.part + 1) co.count ∙ drawn s is_valid h.part ms co.fit who from (suits (Start who) from fits) e
         go false e = kept s is_valid h.part ms co.fit who from (suits (Start who) from fits) (open' who.txn) (co.follows who.txn) e
 
-    pub start_says_so : coordinator (setting_at h) h.part (Start who) ms ≡ first_ask (setting_at h) h.part who (cond (eqb who.turn 1 || not fixed) (counter' * h.config.parts + h.part + 1) (kept_stamp (open' who.txn)))
+    pub start_says_so : coordinator (setting_of h) h.part (Start who) ms ≡ first_ask (setting_of h) h.part who (cond (eqb who.turn 1 || not fixed) (counter' * h.config.parts + h.part + 1) (kept_stamp (open' who.txn)))
     start_says_so = go (slice_get (s.accesses who.txn) 0) refl
       where
         some : 1 ≤ length (s.accesses who.txn)
@@ -138,14 +132,14 @@ module _ (h : Home) (fixed : Bool) (counter' : ℕ) (homes' : List TxnId) (next'
         go true = omega (arith, co.small)
         go false = omega (arith, co.small)
 
-    pub start_stands : (open2 : TxnId → Option State) → ((y : TxnId) → open2 y ≡ cond (id_eq who.txn y) (Some (begun who.turn (cond (eqb who.turn 1 || not fixed) (counter' * h.config.parts + h.part + 1) (kept_stamp (open' who.txn))) ((setting_at h).accesses who.txn))) (open' y)) → Stands h fixed (cond (eqb who.turn 1 || not fixed) (counter' + 1) counter') homes' next' open2 (Start who ∷ ms)
+    pub start_stands : (open2 : TxnId → Option State) → ((y : TxnId) → open2 y ≡ cond (id_eq who.txn y) (Some (begun who.turn (cond (eqb who.turn 1 || not fixed) (counter' * h.config.parts + h.part + 1) (kept_stamp (open' who.txn))) ((setting_of h).accesses who.txn))) (open' y)) → Stands h fixed (cond (eqb who.turn 1 || not fixed) (counter' + 1) counter') homes' next' open2 (Start who ∷ ms)
     start_stands open2 sets = stands_with (Start who) from fits who.txn (Some (begun who.turn stamp (s.accesses who.txn))) (cond (eqb who.turn 1 || not fixed) (counter' + 1) counter') next' open2 (λ y e. e) sets (start_follows s is_valid h.part ms co.fit who from (suits (Start who) from fits) stamp stamp_is) counts few co.place
 
 -- a coordinator that moved
-pub of_move : (old new : Coord) (x : TxnId) (o : Option State) (counter' next' : ℕ) (ms : List Msg) → Moved old x o counter' next' new → Stands old.home old.fixed counter' old.homes.items next' (state_at new.open) ms → Coordinates new ms
+pub of_move : (old new : Coord) (x : TxnId) (o : Option State) (counter' next' : ℕ) (ms : List Msg) → Moved old x o counter' next' new → Stands old.role old.fixed counter' old.homes.items next' (state_at new.open) ms → Coordinates new ms
 of_move old new x o counter' next' ms mv st =
-    subst (λ h. Stands h new.fixed new.counter new.homes.items new.next (state_at new.open) ms) (sym mv.home)
-    (subst (λ f. Stands old.home f new.counter new.homes.items new.next (state_at new.open) ms) (sym mv.fixed)
-    (subst (λ n. Stands old.home old.fixed n new.homes.items new.next (state_at new.open) ms) (sym mv.count)
-    (subst (λ l. Stands old.home old.fixed counter' l new.next (state_at new.open) ms) (sym mv.homes)
-    (subst (λ n. Stands old.home old.fixed counter' old.homes.items n (state_at new.open) ms) (sym mv.place) st))))
+    subst (λ h. Stands h new.fixed new.counter new.homes.items new.next (state_at new.open) ms) (sym mv.role)
+    (subst (λ f. Stands old.role f new.counter new.homes.items new.next (state_at new.open) ms) (sym mv.fixed)
+    (subst (λ n. Stands old.role old.fixed n new.homes.items new.next (state_at new.open) ms) (sym mv.count)
+    (subst (λ l. Stands old.role old.fixed counter' l new.next (state_at new.open) ms) (sym mv.homes)
+    (subst (λ n. Stands old.role old.fixed counter' old.homes.items n (state_at new.open) ms) (sym mv.place) st))))

@@ -5,7 +5,6 @@ pub mod Ballots
 pub mod Bounds
 pub mod Endings
 pub mod Left
-pub mod Prepares
 pub mod Open
 pub mod Moves
 pub mod Standing

@@ -2,21 +2,19 @@
 ghost use Rattle.std.specs.Prelude.{◌≡◌, ◌++◌, ◌<◌, ◌≤◌, ◌^◌, ◌+◌, length, slice_get, OnOk, OnErr, None, eqb};
 ghost use Rattle.std.specs.List.{list_all};
 ghost use Rattle.deneva_base.specs.Lists.{IsIn};
-ghost use Rattle.txn_program.specs.Placed.{ArePlaced};
 ghost use Rattle.txn_program.specs.Serial.{all_ids};
 ghost use Rattle.server_core.specs.Replies.{Reply};
-ghost use Rattle.coord.specs.Attempts.{state_of, setting_at};
+ghost use Rattle.server_core.specs.Roles.{setting_of};
+ghost use Rattle.coord.specs.Attempts.{state_of, reply_of};
 ghost use Rattle.coord.specs.Ballots.{ballot_of};
 ghost use Rattle.coord.specs.States as states;
 ghost use Rattle.coord.specs.States.{State, begun, taken, going_on, next_mails, granted_mails, refused_mails, decision_mails, voted_mails, with_left, without};
 
 use crate::ballots::{Ballot, Decision, decide};
-use crate::home::Home;
-use crate::partitions::program_at;
-use crate::replies::{greater_bound, take_out};
-use crate::saying::{Ending, say_ask, say_prepares, say_to_all};
-use deneva_base::{Access, AccessList, Attempt, Bound, Key, Keyed, NoMemory, Number, Row, RowList};
-use server_core::Outbox;
+use crate::replies::{Grant, greater_bound, take_out};
+use crate::saying::{Ending, ask_mail, say_prepares, say_to_all};
+use deneva_base::{Access, AccessList, Attempt, Bound, Key, Keyed, NoMemory, Number, RowList};
+use server_core::{Outbox, Role};
 use std::alloc::Global;
 use std::mem;
 use txn_program::{effect_of, parts_of};
@@ -66,18 +64,18 @@ impl Attempting {
     }
 
     /// Takes in the reply to an access.
-    fn take(&mut self, access: Access, key: Key, row: &Row, bound: u64) -> Result<(), NoMemory>
+    fn take(&mut self, access: Access, grant: Grant<'_>) -> Result<(), NoMemory>
         requires { self.old.granted < 2 ^ 63 }
-        ensures ok { OnOk result (state_of self.new ≡ taken access (record { row = row.now; bound = bound; key = key }) (state_of self.old)) }
+        ensures ok { OnOk result (state_of self.new ≡ taken access (reply_of grant.entry) (state_of self.old)) }
         ensures err { OnErr result (state_of self.new ≡ state_of self.old) }
     {
         if access.mode.is_reading() {
             self.rows.push(Keyed {
                 key: access.key,
-                row: row.share()?,
+                row: grant.row.share()?,
             })?;
         }
-        self.bound = greater_bound(self.bound, bound, key, self.granted == 0);
+        self.bound = greater_bound(self.bound, grant.bound, grant.key, self.granted == 0);
         self.granted += 1;
         Ok(())
     }
@@ -97,61 +95,47 @@ impl Attempting {
     }
 
     /// Has all participants vote.
-    fn prepare(&mut self, home: &Home, who: Attempt, out: &mut Outbox) -> Result<(), NoMemory>
-        requires id { IsIn who.txn (all_ids home.now.work.now) }
-        requires placed { ArePlaced self.old.accesses }
-        ensures ok { OnOk result (state_of self.new ≡ with_left (states.participants_of (setting_at home.now) (state_of self.old)) (state_of self.old)) }
-        ensures said { OnOk result (out.new.mails ≡ out.old.mails ++ next_mails (setting_at home.now) home.now.part who (state_of self.old) None) }
+    fn prepare(&mut self, role: &Role<'_>, who: Attempt, out: &mut Outbox) -> Result<(), NoMemory>
+        requires { IsIn who.txn (all_ids role.now.work.now) }
+        ensures ok { OnOk result (state_of self.new ≡ with_left (states.participants_of (setting_of role.now) (state_of self.old)) (state_of self.old)) }
+        ensures said { OnOk result (out.new.mails ≡ out.old.mails ++ next_mails (setting_of role.now) role.now.part who (state_of self.old) None) }
         ensures err { OnErr result (state_of self.new ≡ state_of self.old) }
         ensures same_mails { OnErr result (out.new.mails ≡ out.old.mails) }
     {
-        let parts = parts_of(home.alloc, home.config.parts, self.accesses.as_slice())?;
-        let program = program_at(home.work, who.txn);
-        let effect = effect_of(home.alloc, &home.work.load, who.txn, program, &self.rows)?;
-        say_prepares(
-            home.alloc,
-            out,
-            home.config.parts,
-            home.part,
-            who,
-            self.bound,
-            &effect,
-            parts.as_slice(),
-        )?;
-        self.left = parts.into_vec();
+        let participants = parts_of(role.alloc, role.config.parts, self.accesses.as_slice())?;
+        let program = role.program(who.txn);
+        let effect = effect_of(role.alloc, &role.work.load, who.txn, program, &self.rows)?;
+        say_prepares(role, who, self.bound, &effect, participants.as_slice(), out)?;
+        self.left = participants.into_vec();
         Ok(())
     }
 
     /// Asks for its next access, or has all participants vote.
-    fn go_on(&mut self, home: &Home, who: Attempt, out: &mut Outbox) -> Result<(), NoMemory>
-        requires id { IsIn who.txn (all_ids home.now.work.now) }
-        requires placed { ArePlaced self.old.accesses }
-        ensures ok { OnOk result (state_of self.new ≡ going_on (setting_at home.now) (state_of self.old) (slice_get self.old.accesses self.old.granted)) }
-        ensures said { OnOk result (out.new.mails ≡ out.old.mails ++ next_mails (setting_at home.now) home.now.part who (state_of self.old) (slice_get self.old.accesses self.old.granted)) }
+    fn go_on(&mut self, role: &Role<'_>, who: Attempt, out: &mut Outbox) -> Result<(), NoMemory>
+        requires { IsIn who.txn (all_ids role.now.work.now) }
+        ensures ok { OnOk result (state_of self.new ≡ going_on (setting_of role.now) (state_of self.old) (slice_get self.old.accesses self.old.granted)) }
+        ensures said { OnOk result (out.new.mails ≡ out.old.mails ++ next_mails (setting_of role.now) role.now.part who (state_of self.old) (slice_get self.old.accesses self.old.granted)) }
         ensures err { OnErr result (state_of self.new ≡ state_of self.old) }
         ensures same_mails { OnErr result (out.new.mails ≡ out.old.mails) }
     {
         if self.granted >= self.accesses.len() {
-            return self.prepare(home, who, out);
+            return self.prepare(role, who, out);
         }
         let access = *self.accesses.get(self.granted);
-        say_ask(out, home.config.parts, home.part, who, self.stamp, access)
+        out.say(ask_mail(role, who, self.stamp, access))
     }
 
     /// The access that it asked for is granted.
     pub fn granted(
         &mut self,
-        home: &Home,
+        role: &Role<'_>,
         who: Attempt,
-        key: Key,
-        row: &Row,
-        bound: u64,
+        grant: Grant<'_>,
         out: &mut Outbox,
     ) -> Result<(), NoMemory>
-        requires id { IsIn who.txn (all_ids home.now.work.now) }
-        requires placed { ArePlaced self.old.accesses }
-        ensures ok { OnOk result (state_of self.new ≡ states.granted (setting_at home.now) (record { row = row.now; bound = bound; key = key }) (state_of self.old)) }
-        ensures said { OnOk result (out.new.mails ≡ out.old.mails ++ granted_mails (setting_at home.now) home.now.part who (record { row = row.now; bound = bound; key = key }) (state_of self.old)) }
+        requires { IsIn who.txn (all_ids role.now.work.now) }
+        ensures ok { OnOk result (state_of self.new ≡ states.granted (setting_of role.now) (reply_of grant.entry) (state_of self.old)) }
+        ensures said { OnOk result (out.new.mails ≡ out.old.mails ++ granted_mails (setting_of role.now) role.now.part who (reply_of grant.entry) (state_of self.old)) }
         ensures err { OnErr result (state_of self.new ≡ state_of self.old) }
         ensures same_mails { OnErr result (out.new.mails ≡ out.old.mails) }
     {
@@ -160,37 +144,40 @@ impl Attempting {
         }
         let access = *self.accesses.get(self.granted);
         let best = self.bound;
-        self.take(access, key, row, bound)?;
-        match self.go_on(home, who, out) {
+        self.take(access, grant)?;
+        match self.go_on(role, who, out) {
             Ok(()) => Ok(()),
             Err(error) => {
-                self.give_back(home.alloc, access, best);
+                self.give_back(role.alloc, access, best);
                 Err(error)
             }
         }
     }
 
     /// It is refused: it aborts where it has asked.
-    pub fn refused(&mut self, home: &Home, who: Attempt, out: &mut Outbox) -> Result<(), NoMemory>
-        requires placed { ArePlaced self.old.accesses }
-        requires more { self.old.granted < length self.old.accesses }
-        ensures ok { OnOk result (state_of self.new ≡ states.refused (setting_at home.now) (state_of self.old)) }
-        ensures said { OnOk result (out.new.mails ≡ out.old.mails ++ refused_mails (setting_at home.now) home.now.part who (state_of self.old)) }
+    pub fn refused(
+        &mut self,
+        role: &Role<'_>,
+        who: Attempt,
+        out: &mut Outbox,
+    ) -> Result<(), NoMemory>
+        requires { self.old.granted < length self.old.accesses }
+        ensures ok { OnOk result (state_of self.new ≡ states.refused (setting_of role.now) (state_of self.old)) }
+        ensures said { OnOk result (out.new.mails ≡ out.old.mails ++ refused_mails (setting_of role.now) role.now.part who (state_of self.old)) }
         ensures err { OnErr result (state_of self.new ≡ state_of self.old) }
         ensures same_mails { OnErr result (out.new.mails ≡ out.old.mails) }
     {
         let asked = &self.accesses.as_slice()[..self.granted + 1];
-        let parts = parts_of(home.alloc, home.config.parts, asked)?;
-        say_to_all(out, home.part, who, Ending::Abort, parts.as_slice())?;
-        self.left = parts.into_vec();
+        let told = parts_of(role.alloc, role.config.parts, asked)?;
+        say_to_all(role.part, who, Ending::Abort, told.as_slice(), out)?;
+        self.left = told.into_vec();
         Ok(())
     }
 
     /// Tells all participants what the votes decide.
-    fn tell(&mut self, home: &Home, who: Attempt, out: &mut Outbox) -> Result<(), NoMemory>
-        requires placed { ArePlaced self.old.accesses }
-        ensures ok { OnOk result (state_of self.new ≡ with_left (states.participants_of (setting_at home.now) (state_of self.old)) (state_of self.old)) }
-        ensures said { OnOk result (out.new.mails ≡ out.old.mails ++ decision_mails (setting_at home.now) home.now.part who (state_of self.old)) }
+    fn tell(&mut self, role: &Role<'_>, who: Attempt, out: &mut Outbox) -> Result<(), NoMemory>
+        ensures ok { OnOk result (state_of self.new ≡ with_left (states.participants_of (setting_of role.now) (state_of self.old)) (state_of self.old)) }
+        ensures said { OnOk result (out.new.mails ≡ out.old.mails ++ decision_mails (setting_of role.now) role.now.part who (state_of self.old)) }
         ensures kept { self.new.ballots ≡ self.old.ballots }
         ensures err { OnErr result (state_of self.new ≡ state_of self.old) }
         ensures same_mails { OnErr result (out.new.mails ≡ out.old.mails) }
@@ -199,9 +186,9 @@ impl Attempting {
             Decision::Commit(n) => Ending::Commit(Number { n, id: who.txn }),
             Decision::Abort => Ending::Abort,
         };
-        let parts = parts_of(home.alloc, home.config.parts, self.accesses.as_slice())?;
-        say_to_all(out, home.part, who, ending, parts.as_slice())?;
-        self.left = parts.into_vec();
+        let participants = parts_of(role.alloc, role.config.parts, self.accesses.as_slice())?;
+        say_to_all(role.part, who, ending, participants.as_slice(), out)?;
+        self.left = participants.into_vec();
         Ok(())
     }
 
@@ -220,14 +207,13 @@ impl Attempting {
     /// A participant votes: the last vote decides.
     pub fn voted(
         &mut self,
-        home: &Home,
+        role: &Role<'_>,
         who: Attempt,
         ballot: Ballot,
         out: &mut Outbox,
     ) -> Result<(), NoMemory>
-        requires placed { ArePlaced self.old.accesses }
-        ensures ok { OnOk result (state_of self.new ≡ states.voted (setting_at home.now) (ballot_of ballot) (state_of self.old)) }
-        ensures said { OnOk result (out.new.mails ≡ out.old.mails ++ voted_mails (setting_at home.now) home.now.part who (ballot_of ballot) (state_of self.old)) }
+        ensures ok { OnOk result (state_of self.new ≡ states.voted (setting_of role.now) (ballot_of ballot) (state_of self.old)) }
+        ensures said { OnOk result (out.new.mails ≡ out.old.mails ++ voted_mails (setting_of role.now) role.now.part who (ballot_of ballot) (state_of self.old)) }
         ensures err { OnErr result (state_of self.new ≡ state_of self.old) }
         ensures same_mails { OnErr result (out.new.mails ≡ out.old.mails) }
     {
@@ -236,7 +222,7 @@ impl Attempting {
             take_out(&mut self.left, ballot.part);
             return Ok(());
         }
-        match self.tell(home, who, out) {
+        match self.tell(role, who, out) {
             Ok(()) => Ok(()),
             Err(error) => {
                 self.ballots.pop();

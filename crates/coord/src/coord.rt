@@ -1,18 +1,16 @@
 //! The coordinator of a node's home transactions.
 ghost use Rattle.std.specs.Prelude.{◌≡◌, ◌++◌, ◌∷◌, [], ◌<◌, ◌≤◌, ◌^◌, ℕ, List, not, cond, ltb, length, slice_get, IfOk, OnOk, OnErr, Some, None, true, ◌+◌};
 ghost use Rattle.deneva_base.specs.Lists.{IsIn};
-ghost use Rattle.txn_program.specs.Placed.{ArePlaced};
 ghost use Rattle.txn_program.specs.Serial.{all_ids};
 ghost use Rattle.txn_program.specs.Valid.{IsValid};
 ghost use Rattle.server_core.specs.Configs.{IsConfig};
 ghost use Rattle.protocol_rules.specs.Protocols.{IsVoting};
 ghost use Rattle.server_core.specs.Coordinator.{coordinator, mail_start, ask_of};
-ghost use Rattle.server_core.specs.Roles.{FitsRole};
+ghost use Rattle.server_core.specs.Roles.{FitsRole, setting_of};
 ghost use Rattle.server_core.specs.Setting.{setting};
 ghost use Rattle.server_core.specs.Small.{SmallCause};
 ghost use Rattle.server_core.specs.Stamps as stamps;
 ghost use Rattle.server_core.specs.declared.messages.Msg as messages;
-ghost use Rattle.coord.specs.Attempts.{setting_at};
 ghost use Rattle.coord.specs.Moves.{Moved, Same, draws, stamp_for, started_by, counted_by};
 ghost use Rattle.coord.specs.Open.{state_at, WithState};
 ghost use Rattle.coord.specs.Standing.{role_of, Coordinates};
@@ -22,19 +20,18 @@ ghost use Rattle.coord.specs.States.{if_none_left, undone_mails, refused_mails, 
 use crate::attempts::Attempting;
 use crate::ballots::Ballot;
 use crate::counters::{raised, stamp_of};
-use crate::home::Home;
 use crate::open::OpenTxns;
-use crate::partitions::{homes_of, program_at};
+use crate::replies::Grant;
 use crate::saying::{ask_mail, say_start};
 use deneva_base::{Attempt, Cause, Config, NoMemory, TxnId, Vote};
-use server_core::{Msg, Outbox};
+use server_core::{Msg, Outbox, Role};
 use std::alloc::Global;
-use txn_program::{Workload, accesses_of};
+use txn_program::Workload;
 
 /// Two-phase commit at the home of transactions. Of the messages that it has handled it keeps what the next ones ask for.
 #[derive(Drop)]
 pub struct Coord<'w> {
-    home: Home<'w>,
+    role: Role<'w>,
     /// Whether a transaction keeps its first stamp.
     fixed: bool,
     /// The stamps drawn so far, or as many as a refusal asks for.
@@ -62,14 +59,10 @@ impl<'w> Coord<'w> {
         ensures role { IfOk result (λ c. role_of c ≡ record { config = config; work = work.now; part = part }) }
         ensures stands { IfOk result (λ c. Coordinates c []) }
     {
-        let homes = homes_of(alloc, work, config.parts, part)?;
+        let role = Role::new(alloc, config, part, work);
+        let homes = role.homes()?;
         Ok(Coord {
-            home: Home {
-                alloc,
-                config,
-                part,
-                work,
-            },
+            role,
             fixed,
             counter: 0,
             homes,
@@ -90,7 +83,7 @@ impl<'w> Coord<'w> {
         ensures { result ≡ stamp_for self.now who }
     {
         if self.draws(who) {
-            stamp_of(self.counter, self.home.config.parts, self.home.part)
+            stamp_of(self.counter, self.role.config.parts, self.role.part)
         } else {
             self.open.stamp(who.txn)
         }
@@ -98,66 +91,64 @@ impl<'w> Coord<'w> {
 
     /// Begins an attempt, with a stamp of its own or that of its first turn.
     fn start(&mut self, who: Attempt, out: &mut Outbox) -> Result<(), NoMemory>
-        requires id { IsIn who.txn (all_ids self.old.home.work.now) }
+        requires id { IsIn who.txn (all_ids self.old.role.work.now) }
         requires counter { self.old.counter ≤ 2 ^ 49 }
         ensures ok { OnOk result (Moved self.old who.txn (Some (started_by self.old who)) (counted_by self.old who) self.old.next self.new) }
-        ensures said { OnOk result (out.new.mails ≡ out.old.mails ++ states.first_ask (setting_at self.old.home) self.old.home.part who (stamp_for self.old who)) }
+        ensures said { OnOk result (out.new.mails ≡ out.old.mails ++ states.first_ask (setting_of self.old.role) self.old.role.part who (stamp_for self.old who)) }
         ensures err { OnErr result (Same self.old self.new) }
         ensures same_mails { OnErr result (out.new.mails ≡ out.old.mails) }
-        ensures home { self.new.home ≡ self.old.home }
+        ensures role { self.new.role ≡ self.old.role }
     {
-        let home = self.home;
+        let role = self.role;
         let stamp = self.stamp(who);
-        let program = program_at(home.work, who.txn);
-        let accesses = accesses_of(home.alloc, &home.work.load, program)?;
+        let accesses = role.accesses(who.txn)?;
         let first = *accesses.get(0);
         out.reserve(1)?;
         let counter = self.counter + u64::from(self.draws(who));
         self.open.put(
             who.txn,
-            Attempting::new(home.alloc, who.turn, stamp, accesses),
+            Attempting::new(role.alloc, who.turn, stamp, accesses),
         )?;
         self.counter = counter;
-        out.put(ask_mail(home.config.parts, home.part, who, stamp, first));
+        out.put(ask_mail(&role, who, stamp, first));
         Ok(())
     }
 
     /// An access is refused: later stamps are above the number that the cause names.
     fn refused(&mut self, who: Attempt, cause: &Cause, out: &mut Outbox) -> Result<(), NoMemory>
         requires small { SmallCause cause.now }
-        requires placed { WithState self.old.open who.txn (λ t. ArePlaced t.accesses) }
         requires more { WithState self.old.open who.txn (λ t. t.granted < length t.accesses) }
-        ensures ok { OnOk result (WithState self.old.open who.txn (λ t. Moved self.old who.txn (Some (states.refused (setting_at self.old.home) t)) (stamps.raised self.old.home.config.parts self.old.counter cause.now) self.old.next self.new)) }
-        ensures said { OnOk result (WithState self.old.open who.txn (λ t. out.new.mails ≡ out.old.mails ++ refused_mails (setting_at self.old.home) self.old.home.part who t)) }
+        ensures ok { OnOk result (WithState self.old.open who.txn (λ t. Moved self.old who.txn (Some (states.refused (setting_of self.old.role) t)) (stamps.raised self.old.role.config.parts self.old.counter cause.now) self.old.next self.new)) }
+        ensures said { OnOk result (WithState self.old.open who.txn (λ t. out.new.mails ≡ out.old.mails ++ refused_mails (setting_of self.old.role) self.old.role.part who t)) }
         ensures err { OnErr result (Same self.old self.new) }
         ensures same_mails { OnErr result (out.new.mails ≡ out.old.mails) }
-        ensures home { self.new.home ≡ self.old.home }
+        ensures role { self.new.role ≡ self.old.role }
     {
-        self.open.refused(&self.home, who, out)?;
-        self.counter = raised(self.home.config.parts, self.counter, cause);
+        self.open.refused(&self.role, who, out)?;
+        self.counter = raised(self.role.config.parts, self.counter, cause);
         Ok(())
     }
 
     /// Has the next transaction of this node begin, if one is left.
     fn say_next(&self, out: &mut Outbox) -> Result<(), NoMemory>
-        ensures ok { OnOk result (out.new.mails ≡ out.old.mails ++ mail_start self.now.home.part (slice_get self.now.homes.items self.now.next)) }
+        ensures ok { OnOk result (out.new.mails ≡ out.old.mails ++ mail_start self.now.role.part (slice_get self.now.homes.items self.now.next)) }
         ensures err { OnErr result (out.new.mails ≡ out.old.mails) }
     {
         if self.next >= self.homes.len() {
             return Ok(());
         }
         let txn = self.homes[self.next];
-        say_start(out, self.home.part, Attempt { txn, turn: 1 })
+        say_start(self.role.part, Attempt { txn, turn: 1 }, out)
     }
 
     /// A transaction is over: the next one of this node begins, if one is left.
     fn end(&mut self, id: TxnId, out: &mut Outbox) -> Result<(), NoMemory>
         requires next { self.old.next < 2 ^ 63 }
         ensures ok { OnOk result (Moved self.old id None self.old.counter (self.old.next + 1) self.new) }
-        ensures said { OnOk result (out.new.mails ≡ out.old.mails ++ mail_start self.old.home.part (slice_get self.old.homes.items self.old.next)) }
+        ensures said { OnOk result (out.new.mails ≡ out.old.mails ++ mail_start self.old.role.part (slice_get self.old.homes.items self.old.next)) }
         ensures err { OnErr result (Same self.old self.new) }
         ensures same_mails { OnErr result (out.new.mails ≡ out.old.mails) }
-        ensures home { self.new.home ≡ self.old.home }
+        ensures role { self.new.role ≡ self.old.role }
     {
         self.say_next(out)?;
         self.next += 1;
@@ -169,10 +160,10 @@ impl<'w> Coord<'w> {
     fn done(&mut self, who: Attempt, part: u8, out: &mut Outbox) -> Result<(), NoMemory>
         requires next { self.old.next < 2 ^ 63 }
         ensures ok { OnOk result (WithState self.old.open who.txn (λ t. Moved self.old who.txn (states.done part t) self.old.counter (risen true self.old.next (without part t.left)) self.new)) }
-        ensures said { OnOk result (WithState self.old.open who.txn (λ t. out.new.mails ≡ out.old.mails ++ if_none_left (mail_start self.old.home.part (slice_get self.old.homes.items self.old.next)) (without part t.left))) }
+        ensures said { OnOk result (WithState self.old.open who.txn (λ t. out.new.mails ≡ out.old.mails ++ if_none_left (mail_start self.old.role.part (slice_get self.old.homes.items self.old.next)) (without part t.left))) }
         ensures err { OnErr result (Same self.old self.new) }
         ensures same_mails { OnErr result (out.new.mails ≡ out.old.mails) }
-        ensures home { self.new.home ≡ self.old.home }
+        ensures role { self.new.role ≡ self.old.role }
     {
         if self.open.is_last(who.txn, part) {
             return self.end(who.txn, out);
@@ -184,21 +175,21 @@ impl<'w> Coord<'w> {
     /// An attempt has aborted at a partition.
     fn undone(&mut self, who: Attempt, part: u8, out: &mut Outbox) -> Result<(), NoMemory>
         requires next { self.old.next < 2 ^ 63 }
-        ensures ok { OnOk result (WithState self.old.open who.txn (λ t. Moved self.old who.txn (states.undone (setting_at self.old.home) who part t) self.old.counter (risen (not (ltb who.turn self.old.home.config.attempts)) self.old.next (without part t.left)) self.new)) }
-        ensures said { OnOk result (WithState self.old.open who.txn (λ t. out.new.mails ≡ out.old.mails ++ if_none_left (undone_mails (setting_at self.old.home) self.old.home.part who (mail_start self.old.home.part (slice_get self.old.homes.items self.old.next))) (without part t.left))) }
+        ensures ok { OnOk result (WithState self.old.open who.txn (λ t. Moved self.old who.txn (states.undone (setting_of self.old.role) who part t) self.old.counter (risen (not (ltb who.turn self.old.role.config.attempts)) self.old.next (without part t.left)) self.new)) }
+        ensures said { OnOk result (WithState self.old.open who.txn (λ t. out.new.mails ≡ out.old.mails ++ if_none_left (undone_mails (setting_of self.old.role) self.old.role.part who (mail_start self.old.role.part (slice_get self.old.homes.items self.old.next))) (without part t.left))) }
         ensures err { OnErr result (Same self.old self.new) }
         ensures same_mails { OnErr result (out.new.mails ≡ out.old.mails) }
-        ensures home { self.new.home ≡ self.old.home }
+        ensures role { self.new.role ≡ self.old.role }
     {
         if !self.open.is_last(who.txn, part) {
             self.open.closed(who.txn, part);
             return Ok(());
         }
-        if who.turn >= self.home.config.attempts {
+        if who.turn >= self.role.config.attempts {
             return self.end(who.txn, out);
         }
         let turn = who.turn + 1;
-        say_start(out, self.home.part, Attempt { txn: who.txn, turn })?;
+        say_start(self.role.part, Attempt { txn: who.txn, turn }, out)?;
         self.open.closed(who.txn, part);
         Ok(())
     }
@@ -221,17 +212,24 @@ impl<'w> Coord<'w> {
                 row,
                 bound,
                 ..
-            } => self.open.granted(&self.home, *who, *key, row, *bound, out),
+            } => {
+                let grant = Grant {
+                    key: *key,
+                    row,
+                    bound: *bound,
+                };
+                self.open.granted(&self.role, *who, grant, out)
+            }
             Msg::Refused { who, cause, .. } => self.refused(*who, cause, out),
             Msg::Yes { who, part, lo, hi } => {
                 let vote = Vote::Yes { lo: *lo, hi: *hi };
                 self.open
-                    .voted(&self.home, *who, Ballot { part: *part, vote }, out)
+                    .voted(&self.role, *who, Ballot { part: *part, vote }, out)
             }
             Msg::No { who, part, cause } => {
                 let vote = Vote::No(*cause);
                 self.open
-                    .voted(&self.home, *who, Ballot { part: *part, vote }, out)
+                    .voted(&self.role, *who, Ballot { part: *part, vote }, out)
             }
             Msg::Done { who, part } => self.done(*who, *part, out),
             Msg::Undone { who, part } => self.undone(*who, *part, out),

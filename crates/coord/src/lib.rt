@@ -5,9 +5,7 @@ mod attempts;
 mod ballots;
 mod coord;
 mod counters;
-mod home;
 mod open;
-mod partitions;
 mod replies;
 mod saying;
 #[cfg(test)]

@@ -3,9 +3,9 @@ ghost use Rattle.std.specs.Prelude.{◌≡◌, ◌<◌, ◌++◌, eqb, length, S
 ghost use Rattle.std.specs.List.{list_all};
 ghost use Rattle.deneva_base.specs.Lists.{IsIn};
 ghost use Rattle.deneva_base.specs.declared.numbers.TxnId as ids;
-ghost use Rattle.txn_program.specs.Placed.{ArePlaced};
 ghost use Rattle.txn_program.specs.Serial.{all_ids};
-ghost use Rattle.coord.specs.Attempts.{state_of, setting_at};
+ghost use Rattle.server_core.specs.Roles.{setting_of};
+ghost use Rattle.coord.specs.Attempts.{state_of, reply_of};
 ghost use Rattle.coord.specs.Ballots.{ballot_of};
 ghost use Rattle.coord.specs.Open.{state_at, SetsState, SameStates, WithState};
 ghost use Rattle.coord.specs.States as states;
@@ -13,9 +13,9 @@ ghost use Rattle.coord.specs.States.{State, kept_stamp, granted_mails, refused_m
 
 use crate::attempts::Attempting;
 use crate::ballots::Ballot;
-use crate::home::Home;
-use deneva_base::{Attempt, Key, NoMemory, Row, TxnId};
-use server_core::Outbox;
+use crate::replies::Grant;
+use deneva_base::{Attempt, NoMemory, TxnId};
+use server_core::{Outbox, Role};
 use std::alloc::Global;
 use std::collections::HashMap;
 
@@ -63,37 +63,38 @@ impl OpenTxns {
     /// The access that the attempt asked for is granted.
     pub fn granted(
         &mut self,
-        home: &Home,
+        role: &Role<'_>,
         who: Attempt,
-        key: Key,
-        row: &Row,
-        bound: u64,
+        grant: Grant<'_>,
         out: &mut Outbox,
     ) -> Result<(), NoMemory>
-        requires id { IsIn who.txn (all_ids home.now.work.now) }
-        requires placed { WithState self.old who.txn (λ t. ArePlaced t.accesses) }
-        ensures ok { OnOk result (WithState self.old who.txn (λ t. SetsState self.old who.txn (Some (states.granted (setting_at home.now) (record { row = row.now; bound = bound; key = key }) t)) self.new)) }
-        ensures said { OnOk result (WithState self.old who.txn (λ t. out.new.mails ≡ out.old.mails ++ granted_mails (setting_at home.now) home.now.part who (record { row = row.now; bound = bound; key = key }) t)) }
+        requires { IsIn who.txn (all_ids role.now.work.now) }
+        ensures ok { OnOk result (WithState self.old who.txn (λ t. SetsState self.old who.txn (Some (states.granted (setting_of role.now) (reply_of grant.entry) t)) self.new)) }
+        ensures said { OnOk result (WithState self.old who.txn (λ t. out.new.mails ≡ out.old.mails ++ granted_mails (setting_of role.now) role.now.part who (reply_of grant.entry) t)) }
         ensures err { OnErr result (SameStates self.old self.new) }
         ensures same_mails { OnErr result (out.new.mails ≡ out.old.mails) }
     {
         match self.attempts.get_mut(&who.txn) {
-            Some(attempt) => attempt.granted(home, who, key, row, bound, out),
+            Some(attempt) => attempt.granted(role, who, grant, out),
             None => Ok(()),
         }
     }
 
     /// It is refused.
-    pub fn refused(&mut self, home: &Home, who: Attempt, out: &mut Outbox) -> Result<(), NoMemory>
-        requires placed { WithState self.old who.txn (λ t. ArePlaced t.accesses) }
-        requires more { WithState self.old who.txn (λ t. t.granted < length t.accesses) }
-        ensures ok { OnOk result (WithState self.old who.txn (λ t. SetsState self.old who.txn (Some (states.refused (setting_at home.now) t)) self.new)) }
-        ensures said { OnOk result (WithState self.old who.txn (λ t. out.new.mails ≡ out.old.mails ++ refused_mails (setting_at home.now) home.now.part who t)) }
+    pub fn refused(
+        &mut self,
+        role: &Role<'_>,
+        who: Attempt,
+        out: &mut Outbox,
+    ) -> Result<(), NoMemory>
+        requires { WithState self.old who.txn (λ t. t.granted < length t.accesses) }
+        ensures ok { OnOk result (WithState self.old who.txn (λ t. SetsState self.old who.txn (Some (states.refused (setting_of role.now) t)) self.new)) }
+        ensures said { OnOk result (WithState self.old who.txn (λ t. out.new.mails ≡ out.old.mails ++ refused_mails (setting_of role.now) role.now.part who t)) }
         ensures err { OnErr result (SameStates self.old self.new) }
         ensures same_mails { OnErr result (out.new.mails ≡ out.old.mails) }
     {
         match self.attempts.get_mut(&who.txn) {
-            Some(attempt) => attempt.refused(home, who, out),
+            Some(attempt) => attempt.refused(role, who, out),
             None => Ok(()),
         }
     }
@@ -101,19 +102,18 @@ impl OpenTxns {
     /// A participant votes.
     pub fn voted(
         &mut self,
-        home: &Home,
+        role: &Role<'_>,
         who: Attempt,
         ballot: Ballot,
         out: &mut Outbox,
     ) -> Result<(), NoMemory>
-        requires placed { WithState self.old who.txn (λ t. ArePlaced t.accesses) }
-        ensures ok { OnOk result (WithState self.old who.txn (λ t. SetsState self.old who.txn (Some (states.voted (setting_at home.now) (ballot_of ballot) t)) self.new)) }
-        ensures said { OnOk result (WithState self.old who.txn (λ t. out.new.mails ≡ out.old.mails ++ voted_mails (setting_at home.now) home.now.part who (ballot_of ballot) t)) }
+        ensures ok { OnOk result (WithState self.old who.txn (λ t. SetsState self.old who.txn (Some (states.voted (setting_of role.now) (ballot_of ballot) t)) self.new)) }
+        ensures said { OnOk result (WithState self.old who.txn (λ t. out.new.mails ≡ out.old.mails ++ voted_mails (setting_of role.now) role.now.part who (ballot_of ballot) t)) }
         ensures err { OnErr result (SameStates self.old self.new) }
         ensures same_mails { OnErr result (out.new.mails ≡ out.old.mails) }
     {
         match self.attempts.get_mut(&who.txn) {
-            Some(attempt) => attempt.voted(home, who, ballot, out),
+            Some(attempt) => attempt.voted(role, who, ballot, out),
             None => Ok(()),
         }
     }

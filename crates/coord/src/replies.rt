@@ -2,7 +2,15 @@
 ghost use Rattle.std.specs.Prelude.{◌≡◌, not, eqb, filter};
 ghost use Rattle.coord.specs.Bounds.{bound_with};
 
-use deneva_base::{Bound, Key};
+use deneva_base::{Bound, Key, Row};
+
+/// What a participant tells of an access that it grants: the key, its row, and the bound of the attempt's number.
+#[derive(Clone, Copy)]
+pub(crate) struct Grant<'m> {
+    pub key: Key,
+    pub row: &'m Row,
+    pub bound: u64,
+}
 
 /// Takes a partition out of those that are left.
 pub(crate) fn take_out(left: &mut Vec<u8>, part: u8)

@@ -1,16 +1,13 @@
 //! What a coordinator says: all of it, or nothing where there is no memory.
-ghost use Rattle.std.specs.Prelude.{◌≡◌, ◌≤◌, ◌++◌, ◌∷◌, [], map, IfOk, OnOk, OnErr};
-ghost use Rattle.txn_program.specs.Placed.{IsPlaced, RowsArePlaced};
+ghost use Rattle.std.specs.Prelude.{◌≡◌, ◌++◌, ◌∷◌, [], map, IfOk, OnOk, OnErr};
 ghost use Rattle.server_core.specs.Coordinator.{ask_of, at_part, prepare_to, to_all};
 ghost use Rattle.server_core.specs.Effects.{lasting};
-ghost use Rattle.server_core.specs.Setting.{Setting};
+ghost use Rattle.server_core.specs.Roles.{setting_of};
 ghost use Rattle.server_core.specs.declared.messages.Msg.TheVariants.{Start};
 ghost use Rattle.coord.specs.Endings.{message_of_ending};
-ghost use Rattle.coord.specs.Prepares.{prepare_at};
 
-use deneva_base::{Access, Attempt, Bound, Copied, NoMemory, Number, RowList, part_of};
-use server_core::{Mail, Msg, Outbox};
-use std::alloc::Global;
+use deneva_base::{Access, Attempt, Bound, NoMemory, Number, RowList, partition_of};
+use server_core::{Mail, MailList, Msg, Outbox, Role};
 use txn_program::{Effect, Verdict};
 
 /// How an attempt ends.
@@ -31,32 +28,22 @@ impl Ending {
     }
 }
 
-/// Says one mail.
-fn say(out: &mut Outbox, mail: Mail) -> Result<(), NoMemory>
-    ensures ok { OnOk result (out.new.mails ≡ out.old.mails ++ mail ∷ []) }
-    ensures err { OnErr result (out.new.mails ≡ out.old.mails) }
-{
-    out.reserve(1)?;
-    out.put(mail);
-    Ok(())
-}
-
-/// Says the end of an attempt to each of these partitions.
+/// Says the end of an attempt to each of these participants.
 pub(crate) fn say_to_all(
-    out: &mut Outbox,
     from: u8,
     who: Attempt,
     ending: Ending,
-    parts: &[u8],
+    participants: &[u8],
+    out: &mut Outbox,
 ) -> Result<(), NoMemory>
-    ensures ok { OnOk result (out.new.mails ≡ out.old.mails ++ to_all from (message_of_ending who ending) parts.now) }
+    ensures ok { OnOk result (out.new.mails ≡ out.old.mails ++ to_all from (message_of_ending who ending) participants.now) }
     ensures err { OnErr result (out.new.mails ≡ out.old.mails) }
 {
-    out.reserve(parts.len())?;
-    for part in parts {
+    out.reserve(participants.len())?;
+    for participant in participants {
         out.put(Mail {
             from,
-            to: *part,
+            to: *participant,
             msg: ending.message(who),
         });
     }
@@ -64,14 +51,12 @@ pub(crate) fn say_to_all(
 }
 
 /// The mail that asks the partition of its key for an access.
-pub(crate) fn ask_mail(parts: u8, from: u8, who: Attempt, stamp: u64, access: Access) -> Mail
-    requires parts { 1 ≤ parts }
-    requires placed { IsPlaced access.key }
-    ensures { (s : Setting) → s.parts ≡ parts → result ≡ ask_of s from who stamp access }
+pub(crate) fn ask_mail(role: &Role<'_>, who: Attempt, stamp: u64, access: Access) -> Mail
+    ensures { result ≡ ask_of (setting_of role.now) role.now.part who stamp access }
 {
     Mail {
-        from,
-        to: part_of(access.key, parts),
+        from: role.part,
+        to: partition_of(access.key, role.config.parts),
         msg: Msg::Ask {
             who,
             stamp,
@@ -81,91 +66,48 @@ pub(crate) fn ask_mail(parts: u8, from: u8, who: Attempt, stamp: u64, access: Ac
     }
 }
 
-/// Asks the partition of its key for an access.
-pub(crate) fn say_ask(
-    out: &mut Outbox,
-    parts: u8,
-    from: u8,
-    who: Attempt,
-    stamp: u64,
-    access: Access,
-) -> Result<(), NoMemory>
-    requires parts { 1 ≤ parts }
-    requires placed { IsPlaced access.key }
-    ensures ok { OnOk result ((s : Setting) → s.parts ≡ parts → out.new.mails ≡ out.old.mails ++ ask_of s from who stamp access ∷ []) }
-    ensures err { OnErr result (out.new.mails ≡ out.old.mails) }
-{
-    say(out, ask_mail(parts, from, who, stamp, access))
-}
-
 /// Has a node begin an attempt of a transaction of its own.
-pub(crate) fn say_start(out: &mut Outbox, part: u8, who: Attempt) -> Result<(), NoMemory>
+pub(crate) fn say_start(part: u8, who: Attempt, out: &mut Outbox) -> Result<(), NoMemory>
     ensures ok { OnOk result (out.new.mails ≡ out.old.mails ++ record { from = part; to = part; msg = Start who } ∷ []) }
     ensures err { OnErr result (out.new.mails ≡ out.old.mails) }
 {
-    say(
-        out,
-        Mail {
-            from: part,
-            to: part,
-            msg: Msg::Start { who },
-        },
-    )
+    out.say(Mail {
+        from: part,
+        to: part,
+        msg: Msg::Start { who },
+    })
 }
 
-/// The rows that lie at the partition, in their order.
-fn rows_at(alloc: Global, parts: u8, part: u8, rows: &RowList) -> Result<RowList, NoMemory>
-    requires parts { 1 ≤ parts }
-    requires placed { RowsArePlaced rows.now }
-    ensures { IfOk result (λ list. list ≡ at_part parts part rows.now) }
-{
-    let mut found = RowList::new(alloc);
-    for row in rows.as_slice() {
-        if part_of(row.key, parts) == part {
-            found.push(row.copied(alloc)?)?;
-        }
-    }
-    Ok(found)
-}
-
-/// Those of them that last under a verdict: none where the attempt rolls back.
+/// The rows at a participant that last under a verdict: none if the attempt rolls back.
 fn lasting_at(
-    alloc: Global,
-    parts: u8,
-    part: u8,
+    role: &Role<'_>,
+    participant: u8,
     verdict: Verdict,
     rows: &RowList,
 ) -> Result<RowList, NoMemory>
-    requires parts { 1 ≤ parts }
-    requires placed { RowsArePlaced rows.now }
-    ensures { IfOk result (λ list. list ≡ at_part parts part (lasting verdict rows.now)) }
+    ensures { IfOk result (λ list. list ≡ at_part role.now.config.parts participant (lasting verdict rows.now)) }
 {
     match verdict {
-        Verdict::Commit => rows_at(alloc, parts, part, rows),
-        Verdict::Rollback(_) => Ok(RowList::new(alloc)),
+        Verdict::Commit => role.rows_at(participant, rows.as_slice()),
+        Verdict::Rollback(_) => Ok(RowList::new(role.alloc)),
     }
 }
 
 /// The mail that has a participant prepare.
 fn prepare(
-    alloc: Global,
-    parts: u8,
-    from: u8,
-    to: u8,
+    role: &Role<'_>,
     who: Attempt,
     bound: Bound,
     effect: &Effect,
+    participant: u8,
 ) -> Result<Mail, NoMemory>
-    requires parts { 1 ≤ parts }
-    requires writes { RowsArePlaced effect.now.writes }
-    requires appends { RowsArePlaced effect.now.appends }
-    ensures { IfOk result (λ mail. mail ≡ prepare_at parts from who bound effect.now to) }
+    ensures { IfOk result (λ mail. mail ≡ prepare_to (setting_of role.now) role.now.part who bound effect.now participant) }
 {
-    let writes = lasting_at(alloc, parts, to, effect.verdict, &effect.writes)?;
-    let appends = lasting_at(alloc, parts, to, effect.verdict, &effect.appends)?;
+    let writes = lasting_at(role, participant, effect.verdict, &effect.writes)?;
+    let appends = lasting_at(role, participant, effect.verdict, &effect.appends)?;
     Ok(Mail {
-        from,
-        to,
+        from: role.part,
+        to: participant,
         msg: Msg::Prepare {
             who,
             bound,
@@ -175,39 +117,22 @@ fn prepare(
     })
 }
 
-/// Says all of these mails.
-fn say_all(out: &mut Outbox, mails: Vec<Mail>) -> Result<(), NoMemory>
-    ensures ok { OnOk result (out.new.mails ≡ out.old.mails ++ mails.items) }
-    ensures err { OnErr result (out.new.mails ≡ out.old.mails) }
-{
-    out.reserve(mails.len())?;
-    for mail in mails {
-        out.put(mail);
-    }
-    Ok(())
-}
-
 /// Has each participant prepare an attempt: with its own rows of those that the effect writes and appends, and with none
-/// where that rolls back.
+/// if that rolls back.
 pub(crate) fn say_prepares(
-    alloc: Global,
-    out: &mut Outbox,
-    parts: u8,
-    from: u8,
+    role: &Role<'_>,
     who: Attempt,
     bound: Bound,
     effect: &Effect,
     participants: &[u8],
+    out: &mut Outbox,
 ) -> Result<(), NoMemory>
-    requires parts { 1 ≤ parts }
-    requires writes { RowsArePlaced effect.now.writes }
-    requires appends { RowsArePlaced effect.now.appends }
-    ensures ok { OnOk result ((s : Setting) → s.parts ≡ parts → out.new.mails ≡ out.old.mails ++ map (prepare_to s from who bound effect.now) participants.now) }
+    ensures ok { OnOk result (out.new.mails ≡ out.old.mails ++ map (prepare_to (setting_of role.now) role.now.part who bound effect.now) participants.now) }
     ensures err { OnErr result (out.new.mails ≡ out.old.mails) }
 {
-    let mut mails = Vec::with_capacity(alloc, participants.len())?;
-    for part in participants {
-        mails.push(prepare(alloc, parts, from, *part, who, bound, effect)?)?;
+    let mut mails = MailList::with_capacity(role.alloc, participants.len())?;
+    for participant in participants {
+        mails.push(prepare(role, who, bound, effect, *participant)?)?;
     }
-    say_all(out, mails)
+    out.say_all(mails)
 }

@@ -3,8 +3,8 @@
 use crate::Coord;
 use crate::attempts::Attempting;
 use crate::ballots::{Ballot, Decision};
-use crate::home::Home;
 use crate::open::OpenTxns;
+use crate::replies::Grant;
 use crate::saying::Ending;
 
 fn crosses<X: Send + Sync>() {}
@@ -14,7 +14,7 @@ fn may_cross_threads() {
     crosses::<Ballot>();
     crosses::<Decision>();
     crosses::<Ending>();
-    crosses::<Home>();
+    crosses::<Grant>();
     crosses::<Attempting>();
     crosses::<OpenTxns>();
     crosses::<Coord>();

@@ -23,7 +23,7 @@ pub use items::{Copied, Items, PushNoMemory};
 pub use keys::{Access, Key, Mode};
 pub use memory::NoMemory;
 pub use numbers::{Attempt, Number, TxnId};
-pub use partitions::part_of;
+pub use partitions::partition_of;
 pub use rows::{Cell, Keyed};
 pub use shared::Shared;
 

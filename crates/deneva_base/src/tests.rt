@@ -80,6 +80,6 @@ fn keys_lie_in_partitions(rt: HostRuntime) {
             b: 7,
             c: 9,
         };
-        assert_eq!(rt; part_of(key, parts), part, "at {key:?}");
+        assert_eq!(rt; partition_of(key, parts), part, "at {key:?}");
     }
 }

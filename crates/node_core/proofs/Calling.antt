@@ -23,26 +23,27 @@ use Rattle.server_core.specs.VotingFits.{Suits}
 use Rattle.server_core.proofs.configured.Families.{family_votes}
 use Rattle.server_core.proofs.values.Called.{wakers}
 use Rattle.server_core.proofs.configured.ValidSettings.{valid}
-use Rattle.node_core.specs.declared.place.Place.{Place}
-use Rattle.node_core.specs.Places.{role_at, setting_at}
+use Rattle.server_core.specs.declared.role.Role.{Role}
+use Rattle.server_core.specs.Roles as roles
+use Rattle.server_core.specs.Roles.{setting_of}
 use Rattle.node_core.specs.Standing.{Partakes}
 use Rattle.node_core.proofs.Callers as callers
 
-module _ {C : Type 0} (stands : C → Rows → History → Type 0) (rule : Rows → Rule) (a : Place) (control : C) where
+module _ {C : Type 0} (stands : C → Rows → History → Type 0) (rule : Rows → Rule) (a : Role) (control : C) where
   abbrev s : Setting
-  s = setting_at a
+  s = setting_of a
 
   abbrev p : ℕ
   p = a.part
 
   valid_at : (ms : List Msg) → Partakes stands rule a control ms → Valid s
-  valid_at ms k = valid a.config a.work.now k.place.config k.place.valid k.place.votes
+  valid_at ms k = valid a.config a.work.now a.ranges a.valid k.votes
 
   -- a message that fits suits
-  pub suits : (from : ℕ) (ms : List Msg) (m : Msg) → Partakes stands rule a control ms → FitsRole (role_at a) from m ms → Suits s p from m ms
-  suits from ms m k fits = subst (λ (f : Family). f.suits s p from m ms) (family_votes a.config.protocol k.place.votes) fits.suits
+  pub suits : (from : ℕ) (ms : List Msg) (m : Msg) → Partakes stands rule a control ms → FitsRole (roles.role_of a) from m ms → Suits s p from m ms
+  suits from ms m k fits = subst (λ (f : Family). f.suits s p from m ms) (family_votes a.config.protocol k.votes) fits.suits
 
-  pub prepare_known : (from : ℕ) (ms : List Msg) (who : Attempt) (bound : Bound) (writes appends : List Keyed) → Partakes stands rule a control ms → FitsRole (role_at a) from (Prepare who bound writes appends) ms → IsIn who.txn (all_ids a.work.now)
+  pub prepare_known : (from : ℕ) (ms : List Msg) (who : Attempt) (bound : Bound) (writes appends : List Keyed) → Partakes stands rule a control ms → FitsRole (roles.role_of a) from (Prepare who bound writes appends) ms → IsIn who.txn (all_ids a.work.now)
   prepare_known from ms who bound writes appends k fits =
       callers.prepare_known s p (valid_at ms k) ms who bound writes appends k.fit (suits from ms (Prepare who bound writes appends) k fits).1
 
@@ -51,7 +52,7 @@ module _ {C : Type 0} (stands : C → Rows → History → Type 0) (rule : Rows 
   waits_few ms n short is = omega (arith, short, is, callers.waits_short (calls s p ms))
 
   module _ (from : ℕ) (ms : List Msg) (who : Attempt) (k : Partakes stands rule a control ms) where
-    module _ (number : Number) (fits : FitsRole (role_at a) from (Commit who number) ms) where
+    module _ (number : Number) (fits : FitsRole (roles.role_of a) from (Commit who number) ms) where
       pub may_commit : MayCommit (calls s p ms) who number
       may_commit = (suits from ms (Commit who number) k fits).1
 
@@ -71,7 +72,7 @@ module _ {C : Type 0} (stands : C → Rows → History → Type 0) (rule : Rows 
         pub commit_woken_few : length ws ≤ length (waits (calls s p ms))
         commit_woken_few = subst (λ (l : List Wake). length l ≤ length (waits (calls s p ms))) (sym same_woken) (callers.few_woken (calls s p ms) _ commit_wakes)
 
-    module _ (fits : FitsRole (role_at a) from (Abort who) ms) where
+    module _ (fits : FitsRole (roles.role_of a) from (Abort who) ms) where
       pub may_abort : MayAbort (calls s p ms) who
       may_abort = (suits from ms (Abort who) k fits).1
 

@@ -1,4 +1,3 @@
-pub mod Homes
 pub mod Loads
 pub mod Callers
 pub mod Calling

@@ -1,3 +1,1 @@
-pub mod Places
-pub mod Loading
 pub mod Standing

@@ -4,7 +4,7 @@
 mod loading;
 mod node;
 mod participant;
-mod place;
+mod telling;
 mod threads;
 
 pub use node::Node;

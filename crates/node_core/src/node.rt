@@ -2,30 +2,29 @@
 ghost use Rattle.std.specs.Prelude.{◌≡◌};
 ghost use Rattle.std.proofs.Common.{sym, ◌∙◌};
 ghost use Rattle.voting_laws.proofs.NodeLaws.{mails_fit, runs_end, mails_land, rows_kept_apart};
-ghost use Rattle.node_core.specs.Places.{role_at};
+ghost use Rattle.server_core.specs.Roles as roles;
 ghost use Rattle.node_core.specs.Standing.{NodeStands};
 
 use crate::loading::store_of;
 use crate::participant::Participant;
-use crate::place::Place;
+use crate::telling::{tell_answer, tell_end, tell_vote};
 use control_core::Chosen;
 use coord::Coord;
 use deneva_base::{Attempt, Bound, Config, Key, Mode, NoMemory, Number, Protocol, RowList, Woken};
-use server_core::{Handles, Msg, Outbox, Server};
+use server_core::{Handles, Msg, Outbox, Role, Server};
 use std::alloc::Global;
 use txn_program::Workload;
 
 /// The coordinator of its home transactions, and the control of its partition, which its protocol chooses.
 #[derive(Drop)]
 pub struct Node<'w, C: Chosen> {
-    alloc: Global,
-    place: Place<'w>,
+    role: Role<'w>,
     coord: Coord<'w>,
     control: C,
 }
 
 impl<'w, C: Chosen> Participant for Node<'w, C> {
-    ghost role = { λ n. role_at n.place };
+    ghost role = { λ n. roles.role_of n.role };
 
     ghost stands = { λ n ms. NodeStands C.stands C.rule n ms };
 
@@ -39,7 +38,7 @@ impl<'w, C: Chosen> Participant for Node<'w, C> {
     ) -> Result<(), NoMemory> {
         out.reserve(1)?;
         let answer = self.control.ask(who, stamp, key, mode)?;
-        self.place.tell_answer(who, key, answer, out);
+        tell_answer(&self.role, who, key, answer, out);
         Ok(())
     }
 
@@ -52,12 +51,12 @@ impl<'w, C: Chosen> Participant for Node<'w, C> {
         out: &mut Outbox,
     ) -> Result<(), NoMemory> {
         out.reserve(1)?;
-        let writes = writes.copy(self.alloc)?;
-        let appends = appends.copy(self.alloc)?;
+        let writes = writes.copy(self.role.alloc)?;
+        let appends = appends.copy(self.role.alloc)?;
         let Ok(vote) = self.control.prepare(who, bound, writes, appends) else {
             return Err(NoMemory);
         };
-        self.place.tell_vote(who, vote, out);
+        tell_vote(&self.role, who, vote, out);
         Ok(())
     }
 
@@ -68,27 +67,27 @@ impl<'w, C: Chosen> Participant for Node<'w, C> {
         out: &mut Outbox,
     ) -> Result<(), NoMemory> {
         out.reserve(self.control.waiting() + 1)?;
-        let mut woken = Woken::new(self.alloc);
+        let mut woken = Woken::new(self.role.alloc);
         self.control.commit(who, number, &mut woken)?;
-        let part = self.place.part;
+        let part = self.role.part;
         let done = Msg::Done { who, part };
-        self.place.tell_end(who, done, woken, out);
+        tell_end(&self.role, who, done, woken, out);
         Ok(())
     }
 
     fn hear_abort(&mut self, who: Attempt, out: &mut Outbox) -> Result<(), NoMemory> {
         out.reserve(self.control.waiting() + 1)?;
-        let mut woken = Woken::new(self.alloc);
+        let mut woken = Woken::new(self.role.alloc);
         self.control.abort(who, &mut woken)?;
-        let part = self.place.part;
+        let part = self.role.part;
         let undone = Msg::Undone { who, part };
-        self.place.tell_end(who, undone, woken, out);
+        tell_end(&self.role, who, undone, woken, out);
         Ok(())
     }
 }
 
 impl<'w, C: Chosen> Handles for Node<'w, C> {
-    ghost role = { λ n. role_at n.place };
+    ghost role = { λ n. roles.role_of n.role };
 
     ghost protocol = { C.KIND };
 
@@ -141,10 +140,10 @@ impl<'w, C: Chosen> Server<'w> for Node<'w, C> {
         work: &'w Workload,
     ) -> Result<Self, NoMemory> {
         let coord = Coord::begin(alloc, config, part, C::FIXED, work)?;
-        let control = C::begin(store_of(alloc, work, config.parts, part)?)?;
+        let role = Role::new(alloc, config, part, work);
+        let control = C::begin(store_of(&role)?)?;
         Ok(Node {
-            alloc,
-            place: Place { config, part, work },
+            role,
             coord,
             control,
         })

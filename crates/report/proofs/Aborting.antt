@@ -16,8 +16,9 @@ use Rattle.server_core.specs.declared.messages.Msg.{Msg}
 use Rattle.server_core.specs.declared.messages.Msg.TheVariants.{Ask, Prepare, Yes, No}
 use Rattle.server_core.specs.declared.outcomes.AbortLine.{AbortLine}
 use Rattle.report.specs.Naming.{is_about}
-use Rattle.report.specs.Stories.{Tells, setting_of}
-use Rattle.report.specs.declared.outcomes.run.Run.{Run}
+use Rattle.server_core.specs.Roles.{setting_of}
+use Rattle.report.specs.Stories.{Tells}
+use Rattle.server_core.specs.declared.role.Role.{Role}
 use Rattle.report.specs.declared.outcomes.stories.Story.{Story}
 use Rattle.report.proofs.Locals.{newest_skips, other, refusal_skips, started_skips, votes_skip}
 use Rattle.report.proofs.Telling.{of_messages, of_entries}
@@ -52,7 +53,7 @@ module _ (who : Attempt) where
   and_false true b e = e
   and_false false b e = refl
 
-module _ (r : Run) (H : List Entry) (t : Story) (k : Tells r H t) (turn : ℕ) where
+module _ (r : Role) (H : List Entry) (t : Story) (k : Tells r H t) (turn : ℕ) where
   abbrev who' : Attempt
   who' = attempt t.id turn
 
@@ -92,11 +93,11 @@ module _ (r : Run) (H : List Entry) (t : Story) (k : Tells r H t) (turn : ℕ) w
   refusals_told = of_messages r H t k (refusal_for who') (refusal_skips who')
 
   -- the votes as they are known of the transaction
-  pub voted_told : (bs : List Ballot) (begun voted : Bool) → begun ≡ started_for who' (map (λ m. m.now) t.messages.items) → bs ≡ votes_for who' (map (λ m. m.now) t.messages.items) → voted ≡ all_voted bs t.parts → cond (begun && voted) (vote_abort (setting_of r) H who' bs (first_no None bs)) [] ≡ abort_lines (setting_of r) H who' None
+  pub voted_told : (bs : List Ballot) (begun voted : Bool) → begun ≡ started_for who' (map (λ m. m.now) t.messages.items) → bs ≡ votes_for who' (map (λ m. m.now) t.messages.items) → voted ≡ all_voted bs t.participants → cond (begun && voted) (vote_abort (setting_of r) H who' bs (first_no None bs)) [] ≡ abort_lines (setting_of r) H who' None
   voted_told bs begun voted st are all =
       let votes = are ∙ of_messages r H t k (votes_for who') (votes_skip who') in
       ap₂ (λ b l. cond b (vote_abort (setting_of r) H who' l (first_no None l)) [])
-      (ap₂ (λ a b. a && b) (st ∙ of_messages r H t k (started_for who') (started_skips who')) (all ∙ ap₂ all_voted votes k.parts))
+      (ap₂ (λ a b. a && b) (st ∙ of_messages r H t k (started_for who') (started_skips who')) (all ∙ ap₂ all_voted votes k.participants))
       votes
 
 -- the lines of one turn more

@@ -27,8 +27,9 @@ use Rattle.server_core.specs.declared.outcomes.Decided.{Decided}
 use Rattle.report.specs.Counting.{at_home}
 use Rattle.report.specs.Finishing.{gathered, is_finished, finished_line, finished_lines_of, IsPlace}
 use Rattle.report.specs.Naming.{is_about}
-use Rattle.report.specs.Stories.{Tells, setting_of}
-use Rattle.report.specs.declared.outcomes.run.Run.{Run}
+use Rattle.server_core.specs.Roles.{setting_of}
+use Rattle.report.specs.Stories.{Tells}
+use Rattle.server_core.specs.declared.role.Role.{Role}
 use Rattle.report.specs.declared.outcomes.stories.Story.{Story}
 use Rattle.report.proofs.Locals.{Skips}
 use Rattle.report.proofs.Telling.{of_messages}
@@ -63,17 +64,17 @@ each_same : {A B : Type 0} (f g : A → B) (xs : List A) → ((x : A) → f x �
 each_same f g [] same = refl
 each_same f g (x ∷ xs) same = ap₂ (λ a b. a ∷ b) (same x) (each_same f g xs same)
 
-module _ (r : Run) (H : List Entry) (t : Story) (k : Tells r H t) where
+module _ (r : Role) (H : List Entry) (t : Story) (k : Tells r H t) where
   abbrev ms : List Msg
   ms = map (λ m. m.now) t.messages.items
 
   abbrev heard_at_home : List Msg
   heard_at_home = heard (home (setting_of r) t.id) H
 
-  pub finished_told : list_all (has_finished ms t.id) t.parts ≡ is_finished (setting_of r) H t.id
+  pub finished_told : list_all (has_finished ms t.id) t.participants ≡ is_finished (setting_of r) H t.id
   finished_told =
-      all_same (has_finished ms t.id) (has_finished heard_at_home t.id) t.parts (λ q. of_messages r H t k (λ l. has_finished l t.id q) (finished_skips t.id q))
-      ∙ ap (list_all (has_finished heard_at_home t.id)) k.parts
+      all_same (has_finished ms t.id) (has_finished heard_at_home t.id) t.participants (λ q. of_messages r H t k (λ l. has_finished l t.id q) (finished_skips t.id q))
+      ∙ ap (list_all (has_finished heard_at_home t.id)) k.participants
 
   rows_told : gathered r.config.parts ms t.id t.accesses ≡ collected (setting_of r) heard_at_home t.id
   rows_told =
@@ -142,7 +143,7 @@ module _ (ts : List Story) (i : ℕ) (t : Story) (less : i < length ts) (at : t 
         let size = length-take i ts in
         omega (arith, few, at, low, size)
 
-  module _ (r : Run) (H : List Entry) (all : All (Tells r H) ts) (ids : map (λ (t : Story). t.id) ts ≡ all_ids r.work.now) where
+  module _ (r : Role) (H : List Entry) (all : All (Tells r H) ts) (ids : map (λ (t : Story). t.id) ts ≡ all_ids r.work.now) where
     abbrev s : Setting
     s = setting_of r
 

@@ -2,21 +2,15 @@
 use Rattle.std.proofs.Common.{◌≡◌, ℕ, ◌+◌, ◌<◌, List, [], ◌∷◌, ◌++◌, length, map, take, get_or, sym, ap, subst, ◌∙◌}
 use Rattle.std.specs.List.{All, flat_map}
 use Rattle.std.proofs.lemmas.List.{append-nil, map_more}
-use Rattle.std.proofs.lemmas.List.Elements.{All-weaker}
 use Rattle.std.proofs.lemmas.List.Concat.{flat_map-append}
 use Rattle.deneva_base.specs.declared.numbers.TxnId.{TxnId}
-use Rattle.txn_program.specs.Placed.{ArePlaced}
-use Rattle.txn_program.specs.Serial.{program_of}
-use Rattle.txn_program.proofs.Placing.{accesses_placed}
 use Rattle.server_core.specs.declared.messages.Entry.{Entry}
 use Rattle.server_core.proofs.configured.CalvinSettings.{valid}
 use Rattle.server_core.proofs.lists.Parts.{home_below as below}
-use Rattle.report.specs.Stories.{Tells, setting_of}
-use Rattle.report.specs.declared.outcomes.run.Run.{Run}
+use Rattle.server_core.specs.Roles.{setting_of}
+use Rattle.report.specs.Stories.{Tells}
+use Rattle.server_core.specs.declared.role.Role.{Role}
 use Rattle.report.specs.declared.outcomes.stories.Story.{Story}
-
-pub placed : (r : Run) (H : List Entry) (t : Story) → Tells r H t → ArePlaced t.accesses
-placed r H t k = subst ArePlaced (sym k.accesses) (accesses_placed r.work.now.load (program_of r.work.now t.id))
 
 module _ (ts : List Story) (i : ℕ) (t : Story) (less : i < length ts) (at : t ≡ get_or ts i t) where
   pub story_at : (P : Story → Type 0) → All P ts → P t
@@ -31,10 +25,6 @@ module _ (ts : List Story) (i : ℕ) (t : Story) (less : i < length ts) (at : t 
       ∙ ap (λ (x : Story). flat_map f (ids ++ x.id ∷ [])) at
       ∙ ap (flat_map f) (sym (map_more (λ (t : Story). t.id) ts i t less))
 
--- every key of each story has a partition
-pub all_placed : (r : Run) (H : List Entry) (ts : List Story) → All (Tells r H) ts → All (λ t. ArePlaced t.accesses) ts
-all_placed r H ts = All-weaker (Tells r H) (λ t. ArePlaced t.accesses) (placed r H) ts
-
 -- each home is one of the nodes
-pub home_below : (r : Run) (H : List Entry) (t : Story) → Tells r H t → t.home < r.config.parts
+pub home_below : (r : Role) (H : List Entry) (t : Story) → Tells r H t → t.home < r.config.parts
 home_below r H t k = subst (λ p. p < r.config.parts) (sym k.home) (below (setting_of r) (valid r.config r.work.now r.valid r.ranges).parts t.id)

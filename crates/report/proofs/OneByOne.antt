@@ -22,7 +22,7 @@ use Rattle.server_core.proofs.configured.ValidSettings.{rule_served, valid}
 use Rattle.voting_laws.proofs.Voted as voted
 use Rattle.report.specs.Outcomes.{IsOver, IsLeastOpen}
 use Rattle.report.specs.Stories.{Tells}
-use Rattle.report.specs.declared.outcomes.run.Run.{Run}
+use Rattle.server_core.specs.declared.role.Role.{Role}
 use Rattle.report.specs.declared.outcomes.stories.Story.{Story}
 use Rattle.report.proofs.Places.{id_at}
 
@@ -37,7 +37,7 @@ all_over c w H config d run =
 none_below : (w : Workload) (x : TxnId) → IsIn x (all_ids w) → x.0 ≤ 0 → ⊥
 none_below w x i low = let b = id_between w x i in omega (arith, low, b.0)
 
-module _ (r : Run) (H : List Entry) (ts : List Story) (ids : map (λ (t : Story). t.id) ts ≡ all_ids r.work.now) (o : Outcome) where
+module _ (r : Role) (H : List Entry) (ts : List Story) (ids : map (λ (t : Story). t.id) ts ≡ all_ids r.work.now) (o : Outcome) where
   pub start : (x : TxnId) → IsIn x (all_ids r.work.now) → x.0 ≤ 0 → IsOver o x
   start x i low = absurd (none_below r.work.now x i low)
 

@@ -1,22 +1,15 @@
 -- Transactions by their ids, and entries one after another.
-use Rattle.std.proofs.Common.{◌≡◌, ℕ, zero, suc, ◌+◌, ◌-◌, ◌<◌, ◌≤◌, List, [], ◌∷◌, ◌++◌, length, get_or, slice_get, map, reverse, take, Bool, true, false, cond, eqb, Some, refl, sym, ap, ◌∙◌, arith}
+use Rattle.std.proofs.Common.{◌≡◌, ℕ, zero, suc, ◌+◌, ◌<◌, List, [], ◌∷◌, ◌++◌, length, get_or, map, reverse, take, Bool, true, false, cond, eqb, refl, sym, ap, ◌∙◌, arith}
 use Rattle.std.specs.List.{filter}
 use Rattle.std.proofs.lemmas.List.{append-nil, map-append, reverse-append, take_more}
 use Rattle.std.proofs.lemmas.List.Elements.{filter-append}
-use Rattle.std.proofs.lemmas.Option.{get_or_from_slice_get}
 use Rattle.deneva_base.specs.Lists.{IsIn}
-use Rattle.deneva_base.specs.Partitions.{partition_of}
-use Rattle.deneva_base.specs.declared.keys.Access.{Access}
 use Rattle.deneva_base.specs.declared.numbers.TxnId.{TxnId}
-use Rattle.txn_program.specs.Serial.{ids_from, all_ids, program_of}
-use Rattle.txn_program.specs.Transactions.{accesses, first_key, home_of}
-use Rattle.txn_program.specs.declared.programs.Load.{Load}
+use Rattle.txn_program.specs.Serial.{ids_from, all_ids}
 use Rattle.txn_program.specs.declared.programs.Program.{Program}
-use Rattle.txn_program.specs.declared.programs.Program.TheVariants.{Ycsb}
 use Rattle.txn_program.specs.declared.programs.Workload.{Workload}
 use Rattle.txn_program.proofs.Ids.{id_for_each, id_from_between}
 use Rattle.server_core.specs.Runs.{heard}
-use Rattle.server_core.specs.Setting.{home_in}
 use Rattle.server_core.specs.declared.messages.Entry.{Entry}
 use Rattle.report.specs.Naming.{is_about, entries_of}
 
@@ -43,9 +36,6 @@ module _ (work : Workload) where
     pub ids_more : take (k + 1) (all_ids work) ≡ take k (all_ids work) ++ it ∷ []
     ids_more = take_more (all_ids work) k it within ∙ ap (λ (i : TxnId). take k (all_ids work) ++ i ∷ []) id_at
 
-  pub program_there : (x : TxnId) (p : Program) → slice_get work.programs (x.0 - 1) ≡ Some p → p ≡ program_of work x
-  program_there x p e = sym (get_or_from_slice_get work.programs (x.0 - 1) p (Ycsb []) e)
-
 heard-append : (p : ℕ) (H K : List Entry) → heard p (H ++ K) ≡ heard p H ++ heard p K
 heard-append p [] K = refl
 heard-append p (e ∷ H) K = go (eqb e.node p) (heard-append p H K)
@@ -70,14 +60,6 @@ entries_reversed x H = filter_reversed (λ e. is_about x e.msg) H
         go : (b : Bool) → p a ≡ b → reverse (filter p xs) ≡ filter p (reverse xs) → reverse (cond b (a ∷ filter p xs) (filter p xs)) ≡ filter p (reverse xs) ++ filter p (a ∷ [])
         go true e h = reverse-append (a ∷ []) (filter p xs) ∙ ap (λ l. l ++ a ∷ []) h ∙ ap (λ b. filter p (reverse xs) ++ cond b (a ∷ []) []) (sym e)
         go false e h = h ∙ sym (append-nil (filter p (reverse xs))) ∙ ap (λ b. filter p (reverse xs) ++ cond b (a ∷ []) []) (sym e)
-
--- the home of a setting is that of the program
-pub home_there : (load : Load) (program : Program) (parts : ℕ) → 1 ≤ parts → home_of load program parts ≡ home_in parts (accesses load program)
-home_there load program parts some = go (accesses load program)
-  where
-    go : (list : List Access) → partition_of (first_key list) parts ≡ home_in parts list
-    go [] = omega arith
-    go (a ∷ list) = refl
 
 pub map-reverse : {A B : Type 0} (f : A → B) (xs : List A) → map f (reverse xs) ≡ reverse (map f xs)
 map-reverse f [] = refl

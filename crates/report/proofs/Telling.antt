@@ -18,8 +18,9 @@ use Rattle.server_core.specs.declared.messages.Entry.{Entry}
 use Rattle.server_core.specs.declared.messages.Msg.{Msg}
 use Rattle.report.specs.Naming.{is_about, entries_of}
 use Rattle.report.specs.GrantedRows.{reply_of}
-use Rattle.report.specs.Stories.{Tells, setting_of}
-use Rattle.report.specs.declared.outcomes.run.Run.{Run}
+use Rattle.server_core.specs.Roles.{setting_of}
+use Rattle.report.specs.Stories.{Tells}
+use Rattle.server_core.specs.declared.role.Role.{Role}
 use Rattle.report.specs.declared.outcomes.stories.Story.{Story}
 use Rattle.report.proofs.Locals.{Skips, skipped, heard_of, started_skips, refused_skips, grants_skip, dones_skip, undones_skip, number_skips}
 
@@ -34,7 +35,7 @@ reads_again [] rs = refl
 reads_again (a ∷ list) [] = refl
 reads_again (a ∷ list) (r ∷ rs) = ap (λ l. cond (reads a.mode) (record { key = a.key; row = r.row } ∷ l) l) (reads_again list rs)
 
-module _ (r : Run) (H : List Entry) (t : Story) (k : Tells r H t) where
+module _ (r : Role) (H : List Entry) (t : Story) (k : Tells r H t) where
   abbrev ms : List Msg
   ms = map (λ m. m.now) t.messages.items
 
@@ -50,8 +51,8 @@ module _ (r : Run) (H : List Entry) (t : Story) (k : Tells r H t) where
     abbrev who : Attempt
     who = attempt t.id turn
 
-    pub done_told : (started_for who ms && all_closed (dones_for who ms) t.parts) ≡ ends.all_done (setting_of r) H who
-    done_told = ap₂ (λ a b. a && b) (of_messages (started_for who) (started_skips who)) (ap₂ all_closed (of_messages (dones_for who) (dones_skip who)) k.parts)
+    pub done_told : (started_for who ms && all_closed (dones_for who ms) t.participants) ≡ ends.all_done (setting_of r) H who
+    done_told = ap₂ (λ a b. a && b) (of_messages (started_for who) (started_skips who)) (ap₂ all_closed (of_messages (dones_for who) (dones_skip who)) k.participants)
 
     pub refused_told : refused_for who ms ≡ refused_for who (at_home (setting_of r) H who)
     refused_told = of_messages (refused_for who) (refused_skips who)
@@ -70,9 +71,9 @@ module _ (r : Run) (H : List Entry) (t : Story) (k : Tells r H t) where
     told_if_refused e =
         ap (λ b. cond b (asked_parts (setting_of r) (at_home (setting_of r) H who) who) (parts_for (setting_of r) t.id)) (sym e ∙ refused_told)
 
-    pub told_if_voted : refused_for who ms ≡ false → t.parts ≡ told (setting_of r) (at_home (setting_of r) H who) who
+    pub told_if_voted : refused_for who ms ≡ false → t.participants ≡ told (setting_of r) (at_home (setting_of r) H who) who
     told_if_voted e =
-        k.parts ∙ ap (λ b. cond b (asked_parts (setting_of r) (at_home (setting_of r) H who) who) (parts_for (setting_of r) t.id)) (sym e ∙ refused_told)
+        k.participants ∙ ap (λ b. cond b (asked_parts (setting_of r) (at_home (setting_of r) H who) who) (parts_for (setting_of r) t.id)) (sym e ∙ refused_told)
 
     pub undone_told : (qs : List ℕ) → qs ≡ told (setting_of r) (at_home (setting_of r) H who) who → (started_for who ms && all_closed (undones_for who ms) qs) ≡ ends.all_undone (setting_of r) H who
     undone_told qs e = ap₂ (λ a b. a && b) (of_messages (started_for who) (started_skips who)) (ap₂ all_closed (of_messages (undones_for who) (undones_skip who)) e)

@@ -2,22 +2,20 @@
 use Rattle.std.specs.Prelude.{◌≡◌, List, map}
 use Rattle.deneva_base.specs.Lists.{IsIn}
 use Rattle.txn_program.specs.Serial.{all_ids, program_of}
+use Rattle.server_core.specs.Roles.{setting_of}
 use Rattle.server_core.specs.Runs.{heard}
-use Rattle.server_core.specs.Setting.{Setting, setting, home, parts_for}
+use Rattle.server_core.specs.Setting.{home, parts_for}
 use Rattle.server_core.specs.declared.messages.Entry.{Entry}
+use Rattle.server_core.specs.declared.role.Role.{Role}
 use Rattle.report.specs.Naming.{entries_of}
-use Rattle.report.specs.declared.outcomes.run.Run.{Run}
 use Rattle.report.specs.declared.outcomes.stories.Story.{Story}
 
-abbrev pub setting_of : Run → Setting
-setting_of r = setting r.config r.work.now
-
 -- it is a transaction of the workload, with its entries of this history and the messages among them that its home handled
-pub record Tells (r : Run) (H : List Entry) (t : Story) : Type 0 where
+pub record Tells (r : Role) (H : List Entry) (t : Story) : Type 0 where
   pub known : IsIn t.id (all_ids r.work.now)
   pub program : t.program.now ≡ program_of r.work.now t.id
   pub home : t.home ≡ home (setting_of r) t.id
   pub accesses : t.accesses ≡ (setting_of r).accesses t.id
-  pub parts : t.parts ≡ parts_for (setting_of r) t.id
+  pub participants : t.participants ≡ parts_for (setting_of r) t.id
   pub entries : map (λ e. e.now) t.entries.items ≡ entries_of t.id H
   pub messages : map (λ m. m.now) t.messages.items ≡ heard t.home (entries_of t.id H)

@@ -2,7 +2,6 @@
 ghost use Rattle.std.specs.Prelude.{◌≡◌, ◌↔◌, IsTrue, List, None, reverse, IfOk, IfSome, IfNone};
 ghost use Rattle.deneva_base.specs.Lists.{IsIn};
 ghost use Rattle.deneva_base.specs.declared.numbers.TxnId as numbers;
-ghost use Rattle.txn_program.specs.Placed.{ArePlaced};
 ghost use Rattle.txn_program.specs.Serial.{all_ids};
 ghost use Rattle.txn_program.specs.Valid.{IsValid};
 ghost use Rattle.server_core.specs.Configs.{IsConfig};
@@ -20,14 +19,12 @@ mod groups;
 mod lists;
 mod ordered;
 mod replies;
-mod run;
 mod stories;
 mod voting;
 
 use deneva_base::{Config, NoMemory, Protocol, RowList, TxnId};
 use ordered::ordered_outcome;
-use run::Run;
-use server_core::{Entry, Outcome};
+use server_core::{Entry, Outcome, Role};
 use std::alloc::Global;
 use stories::{Story, stories_of};
 use txn_program::Workload;
@@ -45,38 +42,39 @@ pub fn outcome_of(
     requires valid { IsValid work.now }
     ensures { IfOk result (λ o. o ≡ with_rows (outcome config work.now (reverse history.now)) rows) }
 {
-    let run = Run {
+    // What came of a run is no node's own: the role of the first serves.
+    let role = Role {
         alloc,
         config,
+        part: 0,
         work,
     };
     match config.protocol {
-        Protocol::Calvin => ordered_outcome(run, history, rows),
-        _ => voting_outcome(run, history, rows),
+        Protocol::Calvin => ordered_outcome(role, history, rows),
+        _ => voting_outcome(role, history, rows),
     }
 }
 
 impl Story<'_> {
     /// Whether the transaction is decided or given up.
-    fn is_over(&self, run: Run<'_>) -> Result<bool, NoMemory>
-        requires { ArePlaced self.now.accesses }
-        ensures { IfOk result (λ over. (H : List messages.Entry) → Tells run.entry H self.now → IsTrue over ↔ IsOver (outcome run.entry.config run.entry.work.now H) self.now.id) }
+    fn is_over(&self, role: Role<'_>) -> Result<bool, NoMemory>
+        ensures { IfOk result (λ over. (H : List messages.Entry) → Tells role.entry H self.now → IsTrue over ↔ IsOver (outcome role.entry.config role.entry.work.now H) self.now.id) }
     {
-        match run.config.protocol {
+        match role.config.protocol {
             Protocol::Calvin => Ok(self.is_finished()),
-            _ => self.is_ended(run),
+            _ => self.is_ended(role),
         }
     }
 }
 
-fn least_open(run: Run<'_>, history: &[Entry]) -> Result<Option<TxnId>, NoMemory>
-    ensures some { IfOk result (λ r. IfSome r (IsLeastOpen run.entry.work.now (outcome run.entry.config run.entry.work.now (reverse history.now)))) }
-    ensures none { IfOk result (λ r. IfNone r ((x : numbers.TxnId) → IsIn x (all_ids run.entry.work.now) → IsOver (outcome run.entry.config run.entry.work.now (reverse history.now)) x)) }
-    ensures quiet { IfOk result (λ r. IsQuiet run.entry.config run.entry.work.now (reverse history.now) → r ≡ None) }
+fn least_open(role: Role<'_>, history: &[Entry]) -> Result<Option<TxnId>, NoMemory>
+    ensures some { IfOk result (λ r. IfSome r (IsLeastOpen role.entry.work.now (outcome role.entry.config role.entry.work.now (reverse history.now)))) }
+    ensures none { IfOk result (λ r. IfNone r ((x : numbers.TxnId) → IsIn x (all_ids role.entry.work.now) → IsOver (outcome role.entry.config role.entry.work.now (reverse history.now)) x)) }
+    ensures quiet { IfOk result (λ r. IsQuiet role.entry.config role.entry.work.now (reverse history.now) → r ≡ None) }
 {
-    let stories = stories_of(run, history)?;
+    let stories = stories_of(role, history)?;
     for story in &stories {
-        if !story.is_over(run)? {
+        if !story.is_over(role)? {
             return Ok(Some(story.id));
         }
     }
@@ -97,9 +95,10 @@ pub fn undecided(
     ensures quiet { IfOk result (λ r. IsQuiet config work.now (reverse history.now) → r ≡ None) }
 {
     least_open(
-        Run {
+        Role {
             alloc,
             config,
+            part: 0,
             work,
         },
         history,

@@ -4,3 +4,4 @@ pub mod lists
 pub mod serial
 pub mod flight
 pub mod configured
+pub mod roles

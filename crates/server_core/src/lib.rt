@@ -2,17 +2,21 @@
 //! of a node, and the definitions that every theorem on runs stands on.
 #![tactic(auto)]
 
+mod loading;
 mod messages;
 mod openings;
 mod outbox;
 mod outcome_laws;
 mod outcomes;
+mod role;
 mod schedules;
 mod server;
 mod settings;
+mod telling;
 #[cfg(test)]
 mod tests;
 mod threads;
+mod transactions;
 
 use deneva_base::{Items, Keyed, Shared};
 pub use messages::{Entry, Mail, Msg};
@@ -20,6 +24,7 @@ pub use openings::opening;
 pub use outbox::Outbox;
 pub use outcome_laws::outcomes_are_in_order;
 pub use outcomes::{AbortLine, Decided, Giveup, Outcome, RunKind};
+pub use role::Role;
 pub use schedules::Schedule;
 pub use server::{Handles, Letter, Server};
 pub use settings::{calvin_settings_are_valid, settings_are_valid};

@@ -1,6 +1,7 @@
 //! What nodes say, until it is sent.
-ghost use Rattle.std.specs.Prelude.{◌≡◌, ◌++◌, ◌∷◌, [], ◌≤◌, ◌<◌, ◌+◌, ◌==◌, ◌^◌, length, slice_get, Some, IfSome, IfNone, OnOk};
+ghost use Rattle.std.specs.Prelude.{◌≡◌, ◌++◌, ◌∷◌, [], ◌≤◌, ◌<◌, ◌+◌, ◌==◌, ◌^◌, length, slice_get, Some, IfSome, IfNone, OnOk, OnErr};
 
+use crate::MailList;
 use crate::messages::Mail;
 use deneva_base::NoMemory;
 use std::alloc::Global;
@@ -70,6 +71,36 @@ impl Outbox {
         ensures spare { self.new.spare + 1 ≡ self.old.spare }
     {
         drop(self.mails.push_back(mail));
+    }
+
+    /// Moves the mails to the end, for which there is room.
+    pub fn put_all(&mut self, mails: MailList)
+        requires room { length mails ≤ self.old.spare }
+        ensures { self.new.mails ≡ self.old.mails ++ mails }
+    {
+        for mail in mails.into_vec() {
+            self.put(mail);
+        }
+    }
+
+    /// Says a mail, or nothing if there is no memory for it.
+    pub fn say(&mut self, mail: Mail) -> Result<(), NoMemory>
+        ensures ok { OnOk result (self.new.mails ≡ self.old.mails ++ mail ∷ []) }
+        ensures err { OnErr result (self.new.mails ≡ self.old.mails) }
+    {
+        self.reserve(1)?;
+        self.put(mail);
+        Ok(())
+    }
+
+    /// Says all of these mails, or none of them if there is no memory for all.
+    pub fn say_all(&mut self, mails: MailList) -> Result<(), NoMemory>
+        ensures ok { OnOk result (self.new.mails ≡ self.old.mails ++ mails) }
+        ensures err { OnErr result (self.new.mails ≡ self.old.mails) }
+    {
+        self.reserve(mails.len())?;
+        self.put_all(mails);
+        Ok(())
     }
 
     /// Takes out the mail that was said first.

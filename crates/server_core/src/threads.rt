@@ -1,6 +1,8 @@
 //! Workers may move and share what this crate declares: each call below asks the check for it.
 
-use crate::{AbortLine, Decided, Entry, Giveup, Mail, Msg, Outbox, Outcome, RunKind, Schedule};
+use crate::{
+    AbortLine, Decided, Entry, Giveup, Mail, Msg, Outbox, Outcome, Role, RunKind, Schedule,
+};
 
 fn crosses<X: Send + Sync>() {}
 
@@ -14,6 +16,7 @@ fn may_cross_threads() {
     crosses::<Msg>();
     crosses::<Outbox>();
     crosses::<Outcome>();
+    crosses::<Role>();
     crosses::<RunKind>();
     crosses::<Schedule>();
 }

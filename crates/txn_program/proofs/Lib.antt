@@ -5,7 +5,6 @@ pub mod Ids
 pub mod Loads
 pub mod Members
 pub mod Participants
-pub mod Placing
 pub mod ReadRows
 pub mod ValidPrograms
 pub mod WorkloadLaws

@@ -5,7 +5,7 @@ ghost use Rattle.txn_program.specs.Transactions.{accesses, access_of, first_key,
 ghost use Rattle.txn_program.specs.Valid.{is_valid_program};
 
 use crate::programs::{Load, Program, YcsbAct, YcsbStep};
-use deneva_base::{Access, AccessList, Key, Mode, NoMemory, part_of};
+use deneva_base::{Access, AccessList, Key, Mode, NoMemory, partition_of};
 use std::alloc::{AllocError, Global};
 
 /// The key of a YCSB row.
@@ -64,7 +64,7 @@ fn ycsb_home(steps: &[YcsbStep], parts: u8) -> u8
     ensures home { result ≡ partition_of (first_key (map access_of steps.now)) parts }
     ensures below { result < parts }
 {
-    part_of(steps[0].access().key, parts)
+    partition_of(steps[0].access().key, parts)
 }
 
 /// The partition of a transaction's first access, where its coordinator stands.

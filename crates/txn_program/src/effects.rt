@@ -1,15 +1,19 @@
 //! What a transaction makes of the rows that it reads.
 ghost use Rattle.std.specs.Prelude.{◌≡◌, ◌≤◌, IfOk, List, map, slice_set, filter, eqb};
 ghost use Rattle.std.specs.List.{filter_map};
+ghost use Rattle.deneva_base.specs.Lists.{IsIn};
 ghost use Rattle.deneva_base.specs.Partitions.{partition_of};
 ghost use Rattle.deneva_base.specs.Rows.{row_at};
 ghost use Rattle.deneva_base.specs.declared.rows.Cell.TheVariants.{Text};
 ghost use Rattle.deneva_base.specs.declared.rows.Keyed as keyed;
+ghost use Rattle.txn_program.specs.Serial.{all_ids, program_of};
 ghost use Rattle.txn_program.specs.Transactions.{as_read, effect, effect_at, written, ycsb_key};
 
 use crate::accesses::ycsb_key_of;
-use crate::programs::{Load, Program, YcsbAct, YcsbPut, YcsbStep};
-use deneva_base::{ByteList, Cell, CellList, Key, Keyed, NoMemory, Row, RowList, TxnId, part_of};
+use crate::programs::{Load, Program, Workload, YcsbAct, YcsbPut, YcsbStep};
+use deneva_base::{
+    ByteList, Cell, CellList, Key, Keyed, NoMemory, Row, RowList, TxnId, partition_of,
+};
 use std::alloc::Global;
 
 /// Why a transaction rolled itself back.
@@ -124,7 +128,7 @@ fn ycsb_writes_at(
     let mut writes = RowList::new(alloc);
     for step in steps {
         let key = ycsb_key_of(step.key);
-        if part_of(key, parts) == part {
+        if partition_of(key, parts) == part {
             if let Some(write) = write_of(alloc, cells_read(rows, key), step)? {
                 writes.push(write)?;
             }
@@ -154,20 +158,21 @@ pub fn effect_of(
     }
 }
 
-/// What of that lies at the partition `part`, counted from 0, of `parts`. Rows that lie elsewhere are not made.
+/// What a transaction of the workload makes of the rows that it reads at the partition `part`, counted from 0, of `parts`.
+/// Rows that lie elsewhere are not made.
 pub fn effect_at(
     alloc: Global,
-    load: &Load,
+    work: &Workload,
     id: TxnId,
-    program: &Program,
     rows: &[ReadRow<'_>],
     parts: u8,
     part: u8,
 ) -> Result<Effect, NoMemory>
     requires parts { 1 ≤ parts }
-    ensures { IfOk result (λ e. e ≡ effect_at parts part (effect load.now id program.now (map as_read rows.now))) }
+    requires id { IsIn id (all_ids work.now) }
+    ensures { IfOk result (λ e. e ≡ effect_at parts part (effect work.now.load id (program_of work.now id) (map as_read rows.now))) }
 {
-    match program {
+    match work.program(id) {
         Program::Ycsb(steps) => Ok(Effect {
             verdict: Verdict::Commit,
             writes: ycsb_writes_at(alloc, rows, steps.as_slice(), parts, part)?,

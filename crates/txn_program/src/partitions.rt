@@ -2,30 +2,27 @@
 ghost use Rattle.std.specs.Prelude.{◌≡◌, ◌≤◌, ◌<◌, ◌==◌, ℕ, IfOk, false, get_or, length};
 ghost use Rattle.std.specs.List.{list_any};
 ghost use Rattle.deneva_base.specs.Partitions.{partition_of};
-ghost use Rattle.txn_program.specs.Placed.{ArePlaced};
 ghost use Rattle.txn_program.specs.Transactions as transactions;
 
-use deneva_base::{Access, ByteList, NoMemory, part_of};
+use deneva_base::{Access, ByteList, NoMemory, partition_of};
 use std::alloc::Global;
 
 /// Of each partition whether one of the accesses lies there.
 fn marks_of(alloc: Global, parts: u8, accesses: &[Access]) -> Result<Vec<bool>, NoMemory>
-    requires parts { 1 ≤ parts }
-    requires placed { ArePlaced accesses.now }
+    requires { 1 ≤ parts }
     ensures size { IfOk result (λ marks. length marks.items ≡ parts) }
     ensures marked { IfOk result (λ marks. (p : ℕ) → p < parts → get_or marks.items p false ≡ list_any (λ a. partition_of a.key parts == p) accesses.now) }
 {
     let mut marks = vec![in alloc; false; usize::from(parts)]?;
     for access in accesses {
-        marks[usize::from(part_of(access.key, parts))] = true;
+        marks[usize::from(partition_of(access.key, parts))] = true;
     }
     Ok(marks)
 }
 
 /// The partitions of these accesses, in rising order.
 pub fn parts_of(alloc: Global, parts: u8, accesses: &[Access]) -> Result<ByteList, NoMemory>
-    requires parts { 1 ≤ parts }
-    requires placed { ArePlaced accesses.now }
+    requires { 1 ≤ parts }
     ensures { IfOk result (λ list. list ≡ transactions.parts_of parts accesses.now) }
 {
     let marks = marks_of(alloc, parts, accesses)?;

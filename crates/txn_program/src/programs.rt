@@ -1,8 +1,10 @@
 //! Workloads: what is loaded, and the transactions that run over it.
 ghost use Rattle.std.specs.Prelude.{◌≡◌, IfOk};
+ghost use Rattle.deneva_base.specs.Lists.{IsIn};
+ghost use Rattle.txn_program.specs.Serial.{all_ids, program_of};
 
 use crate::{ProgramList, StepList};
-use deneva_base::{ByteList, Copied, NoMemory, Row, RowList};
+use deneva_base::{ByteList, Copied, NoMemory, Row, RowList, TxnId};
 use std::alloc::Global;
 
 /// A new text for one field of a row.
@@ -100,4 +102,14 @@ pub struct Load {
 pub struct Workload {
     pub load: Load,
     pub programs: ProgramList,
+}
+
+impl Workload {
+    /// The transaction of an id.
+    pub fn program(&self, id: TxnId) -> &Program
+        requires { IsIn id (all_ids self.now) }
+        ensures { result.now ≡ program_of self.now id }
+    {
+        self.programs.get(id.0 as usize - 1)
+    }
 }

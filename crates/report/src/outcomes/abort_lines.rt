@@ -6,15 +6,15 @@ ghost use Rattle.server_core.specs.Coordinator as coordinator;
 ghost use Rattle.server_core.specs.Ends as ends;
 ghost use Rattle.server_core.specs.declared.messages.Entry as messages;
 ghost use Rattle.report.specs.Seen.{ballot_of, refusal_of};
-ghost use Rattle.report.specs.Stories.{Tells, setting_of};
-ghost use Rattle.report.specs.declared.outcomes.run.Run as runs;
+ghost use Rattle.server_core.specs.Roles.{setting_of};
+ghost use Rattle.report.specs.Stories.{Tells};
+ghost use Rattle.server_core.specs.declared.role.Role as roles;
 
 use crate::outcomes::ballots::{all_voted, apart, first_no, greatest_lo, least_hi};
 use crate::outcomes::replies::{Ballot, Refusal, refusal_for, started_for, votes_for};
-use crate::outcomes::run::Run;
 use crate::outcomes::stories::Story;
 use deneva_base::{Attempt, Cause, Key, NoMemory};
-use server_core::{AbortLine, AbortList, Entry, Msg};
+use server_core::{AbortLine, AbortList, Entry, Msg, Role};
 
 /// Whether the attempt asks for the key.
 fn is_ask_of(who: Attempt, key: Key, msg: &Msg) -> bool
@@ -91,7 +91,7 @@ fn line_at(who: Attempt, cause: Cause, found: Option<&Entry>) -> Option<AbortLin
 impl Story<'_> {
     /// The line of the attempt of this turn, of which an access was refused.
     fn refusal_line(&self, turn: u8, refusal: Refusal) -> Option<AbortLine>
-        ensures { (r : runs.Run) (H : List messages.Entry) → Tells r H self.now → option_to_list result ≡ aborts.abort_lines (setting_of r) H (ends.attempt self.now.id turn) (refusal_of (Some refusal)) }
+        ensures { (r : roles.Role) (H : List messages.Entry) → Tells r H self.now → option_to_list result ≡ aborts.abort_lines (setting_of r) H (ends.attempt self.now.id turn) (refusal_of (Some refusal)) }
     {
         let who = self.attempt(turn);
         let found = newest_ask(who, refusal.key, &self.entries);
@@ -100,7 +100,7 @@ impl Story<'_> {
 
     /// The line of the attempt of this turn, if these votes abort it.
     fn vote_line(&self, turn: u8, ballots: &[Ballot]) -> Option<AbortLine>
-        ensures { (r : runs.Run) (H : List messages.Entry) → Tells r H self.now → option_to_list result ≡ aborts.vote_abort (setting_of r) H (ends.attempt self.now.id turn) (map ballot_of ballots.now) (coordinator.first_no None (map ballot_of ballots.now)) }
+        ensures { (r : roles.Role) (H : List messages.Entry) → Tells r H self.now → option_to_list result ≡ aborts.vote_abort (setting_of r) H (ends.attempt self.now.id turn) (map ballot_of ballots.now) (coordinator.first_no None (map ballot_of ballots.now)) }
     {
         let who = self.attempt(turn);
         match first_no(None, ballots) {
@@ -117,15 +117,15 @@ impl Story<'_> {
     }
 
     /// The line of the attempt of this turn, of which no access was refused, if it was aborted.
-    fn voted_line(&self, run: Run<'_>, turn: u8) -> Result<Option<AbortLine>, NoMemory>
-        ensures { IfOk result (λ line. (H : List messages.Entry) → Tells run.entry H self.now → option_to_list line ≡ aborts.abort_lines (setting_of run.entry) H (ends.attempt self.now.id turn) None) }
+    fn voted_line(&self, role: Role<'_>, turn: u8) -> Result<Option<AbortLine>, NoMemory>
+        ensures { IfOk result (λ line. (H : List messages.Entry) → Tells role.entry H self.now → option_to_list line ≡ aborts.abort_lines (setting_of role.entry) H (ends.attempt self.now.id turn) None) }
     {
         let who = self.attempt(turn);
         if !started_for(who, &self.messages) {
             return Ok(None);
         }
-        let ballots = votes_for(run.alloc, who, &self.messages)?;
-        if all_voted(&ballots, self.parts.as_slice()) {
+        let ballots = votes_for(role.alloc, who, &self.messages)?;
+        if all_voted(&ballots, self.participants.as_slice()) {
             Ok(self.vote_line(turn, &ballots))
         } else {
             Ok(None)
@@ -133,21 +133,21 @@ impl Story<'_> {
     }
 
     /// The line of the attempt of this turn, if it was aborted.
-    fn abort_line(&self, run: Run<'_>, turn: u8) -> Result<Option<AbortLine>, NoMemory>
-        ensures { IfOk result (λ line. (H : List messages.Entry) → Tells run.entry H self.now → let who = ends.attempt self.now.id turn in option_to_list line ≡ aborts.abort_lines (setting_of run.entry) H who (aborts.refusal_for who (ends.at_home (setting_of run.entry) H who))) }
+    fn abort_line(&self, role: Role<'_>, turn: u8) -> Result<Option<AbortLine>, NoMemory>
+        ensures { IfOk result (λ line. (H : List messages.Entry) → Tells role.entry H self.now → let who = ends.attempt self.now.id turn in option_to_list line ≡ aborts.abort_lines (setting_of role.entry) H who (aborts.refusal_for who (ends.at_home (setting_of role.entry) H who))) }
     {
         match refusal_for(self.attempt(turn), &self.messages) {
             Some(refusal) => Ok(self.refusal_line(turn, refusal)),
-            None => self.voted_line(run, turn),
+            None => self.voted_line(role, turn),
         }
     }
 
     /// Puts the lines of the aborted attempts at the end, by their turns.
-    pub(crate) fn push_aborts(&self, run: Run<'_>, lines: &mut AbortList) -> Result<(), NoMemory>
-        ensures { OnOk result ((H : List messages.Entry) → Tells run.entry H self.now → lines.new ≡ lines.old ++ aborts.turns (setting_of run.entry) H self.now.id run.entry.config.attempts) }
+    pub(crate) fn push_aborts(&self, role: Role<'_>, lines: &mut AbortList) -> Result<(), NoMemory>
+        ensures { OnOk result ((H : List messages.Entry) → Tells role.entry H self.now → lines.new ≡ lines.old ++ aborts.turns (setting_of role.entry) H self.now.id role.entry.config.attempts) }
     {
-        for turn in 0..run.config.attempts {
-            if let Some(line) = self.abort_line(run, turn + 1)? {
+        for turn in 0..role.config.attempts {
+            if let Some(line) = self.abort_line(role, turn + 1)? {
                 lines.push(line)?;
             }
         }

@@ -6,13 +6,13 @@ ghost use Rattle.server_core.specs.Lines as listed;
 ghost use Rattle.server_core.specs.declared.messages.Entry as messages;
 ghost use Rattle.report.specs.ByTransaction.{lines_for};
 ghost use Rattle.report.specs.GrantedRows.{reply_of};
-ghost use Rattle.report.specs.Stories.{Tells, setting_of};
+ghost use Rattle.server_core.specs.Roles.{setting_of};
+ghost use Rattle.report.specs.Stories.{Tells};
 
 use crate::outcomes::replies::grants_for;
-use crate::outcomes::run::Run;
 use crate::outcomes::stories::Story;
 use deneva_base::{Access, Attempt, Copied, Keyed, NoMemory, Number, Row, RowList};
-use server_core::{Decided, Entry, Msg};
+use server_core::{Decided, Entry, Msg, Role};
 use txn_program::{Effect, effect_of};
 
 /// The number of the attempt's Commit.
@@ -51,46 +51,46 @@ impl Story<'_> {
     /// The line of the transaction, decided with this number on what it read.
     pub(crate) fn decided_as(
         &self,
-        run: Run<'_>,
+        role: Role<'_>,
         n: u64,
         reads: RowList,
     ) -> Result<Decided, NoMemory>
-        ensures { IfOk result (λ line. (H : List messages.Entry) → Tells run.entry H self.now → line ≡ listed.decided_as (setting_of run.entry) self.now.id n reads) }
+        ensures { IfOk result (λ line. (H : List messages.Entry) → Tells role.entry H self.now → line ≡ listed.decided_as (setting_of role.entry) self.now.id n reads) }
     {
         let Effect {
             verdict,
             answer,
             ..
-        } = effect_of(run.alloc, &run.work.load, self.id, self.program, &reads)?;
+        } = effect_of(role.alloc, &role.work.load, self.id, self.program, &reads)?;
         let id = self.id;
         Ok(Decided {
             number: Number { n, id },
             verdict,
             answer,
-            parts: self.parts.copy(run.alloc)?,
+            parts: self.participants.copy(role.alloc)?,
             reads,
         })
     }
 
     /// The line of the transaction, of which the attempt of this turn is decided.
-    fn line_of(&self, run: Run<'_>, turn: u8) -> Result<Decided, NoMemory>
-        ensures { IfOk result (λ line. (H : List messages.Entry) → Tells run.entry H self.now → line ≡ listed.line_of (setting_of run.entry) H (attempt self.now.id turn)) }
+    fn line_of(&self, role: Role<'_>, turn: u8) -> Result<Decided, NoMemory>
+        ensures { IfOk result (λ line. (H : List messages.Entry) → Tells role.entry H self.now → line ≡ listed.line_of (setting_of role.entry) H (attempt self.now.id turn)) }
     {
         let who = self.attempt(turn);
-        let rows = grants_for(run.alloc, who, &self.messages)?;
-        let mut reads = RowList::new(run.alloc);
+        let rows = grants_for(role.alloc, who, &self.messages)?;
+        let mut reads = RowList::new(role.alloc);
         push_reads(&mut reads, self.accesses.as_slice(), &rows)?;
         let n = committed_n(who, &self.entries);
-        let line = self.decided_as(run, n, reads)?;
+        let line = self.decided_as(role, n, reads)?;
         Ok(line)
     }
 
     /// The line of the transaction, if it is decided.
-    pub(crate) fn line(&self, run: Run<'_>) -> Result<Option<Decided>, NoMemory>
-        ensures { IfOk result (λ line. (H : List messages.Entry) → Tells run.entry H self.now → option_to_list line ≡ lines_for (setting_of run.entry) H self.now.id) }
+    pub(crate) fn line(&self, role: Role<'_>) -> Result<Option<Decided>, NoMemory>
+        ensures { IfOk result (λ line. (H : List messages.Entry) → Tells role.entry H self.now → option_to_list line ≡ lines_for (setting_of role.entry) H self.now.id) }
     {
-        match self.done_turn(run.config.attempts) {
-            Some(turn) => Ok(Some(self.line_of(run, turn)?)),
+        match self.done_turn(role.config.attempts) {
+            Some(turn) => Ok(Some(self.line_of(role, turn)?)),
             None => Ok(None),
         }
     }

@@ -2,25 +2,24 @@
 ghost use Rattle.std.specs.Prelude.{◌≡◌, List, map, IfOk};
 ghost use Rattle.std.specs.List.{All, IsDistinct, flat_map};
 ghost use Rattle.deneva_base.specs.Keys.{id_eq};
-ghost use Rattle.txn_program.specs.Placed.{ArePlaced};
 ghost use Rattle.server_core.specs.Aborts as aborts;
 ghost use Rattle.server_core.specs.Lines.{sort_lines};
 ghost use Rattle.server_core.specs.declared.messages.Entry as messages;
 ghost use Rattle.report.specs.ByTransaction.{lines_for, giveups_for};
-ghost use Rattle.report.specs.Stories.{Tells, setting_of};
+ghost use Rattle.server_core.specs.Roles.{setting_of};
+ghost use Rattle.report.specs.Stories.{Tells};
 
-use crate::outcomes::run::Run;
 use crate::outcomes::stories::Story;
 use deneva_base::NoMemory;
-use server_core::{AbortList, DecidedList, GiveupList};
+use server_core::{AbortList, DecidedList, GiveupList, Role};
 
 /// The lines of the decided transactions.
-pub(crate) fn lines_of(run: Run<'_>, stories: &[Story<'_>]) -> Result<DecidedList, NoMemory>
-    ensures { IfOk result (λ list. (H : List messages.Entry) → All (Tells run.entry H) stories.now → list ≡ flat_map (lines_for (setting_of run.entry) H) (map (λ t. t.id) stories.now)) }
+pub(crate) fn lines_of(role: Role<'_>, stories: &[Story<'_>]) -> Result<DecidedList, NoMemory>
+    ensures { IfOk result (λ list. (H : List messages.Entry) → All (Tells role.entry H) stories.now → list ≡ flat_map (lines_for (setting_of role.entry) H) (map (λ t. t.id) stories.now)) }
 {
-    let mut list = DecidedList::new(run.alloc);
+    let mut list = DecidedList::new(role.alloc);
     for story in stories {
-        if let Some(line) = story.line(run)? {
+        if let Some(line) = story.line(role)? {
             list.push(line)?;
         }
     }
@@ -28,13 +27,12 @@ pub(crate) fn lines_of(run: Run<'_>, stories: &[Story<'_>]) -> Result<DecidedLis
 }
 
 /// The transactions that were given up.
-pub(crate) fn giveups_of(run: Run<'_>, stories: &[Story<'_>]) -> Result<GiveupList, NoMemory>
-    requires { All (λ t. ArePlaced t.accesses) stories.now }
-    ensures { IfOk result (λ list. (H : List messages.Entry) → All (Tells run.entry H) stories.now → list ≡ flat_map (giveups_for (setting_of run.entry) H) (map (λ t. t.id) stories.now)) }
+pub(crate) fn giveups_of(role: Role<'_>, stories: &[Story<'_>]) -> Result<GiveupList, NoMemory>
+    ensures { IfOk result (λ list. (H : List messages.Entry) → All (Tells role.entry H) stories.now → list ≡ flat_map (giveups_for (setting_of role.entry) H) (map (λ t. t.id) stories.now)) }
 {
-    let mut list = GiveupList::new(run.alloc);
+    let mut list = GiveupList::new(role.alloc);
     for story in stories {
-        if let Some(giveup) = story.giveup(run)? {
+        if let Some(giveup) = story.giveup(role)? {
             list.push(giveup)?;
         }
     }
@@ -42,12 +40,12 @@ pub(crate) fn giveups_of(run: Run<'_>, stories: &[Story<'_>]) -> Result<GiveupLi
 }
 
 /// The lines of the aborted attempts.
-pub(crate) fn aborts_of(run: Run<'_>, stories: &[Story<'_>]) -> Result<AbortList, NoMemory>
-    ensures { IfOk result (λ list. (H : List messages.Entry) → All (Tells run.entry H) stories.now → list ≡ flat_map (λ x. aborts.turns (setting_of run.entry) H x run.entry.config.attempts) (map (λ t. t.id) stories.now)) }
+pub(crate) fn aborts_of(role: Role<'_>, stories: &[Story<'_>]) -> Result<AbortList, NoMemory>
+    ensures { IfOk result (λ list. (H : List messages.Entry) → All (Tells role.entry H) stories.now → list ≡ flat_map (λ x. aborts.turns (setting_of role.entry) H x role.entry.config.attempts) (map (λ t. t.id) stories.now)) }
 {
-    let mut list = AbortList::new(run.alloc);
+    let mut list = AbortList::new(role.alloc);
     for story in stories {
-        story.push_aborts(run, &mut list)?;
+        story.push_aborts(role, &mut list)?;
     }
     Ok(list)
 }

@@ -3,7 +3,6 @@ ghost use Rattle.std.specs.Prelude.{◌≡◌, ◌↔◌, ◌<◌, ◌≤◌, �
 ghost use Rattle.std.specs.List.{All, list_all};
 ghost use Rattle.deneva_base.specs.Rows as base_rows;
 ghost use Rattle.deneva_base.specs.declared.config.Protocol.TheVariants.{Calvin};
-ghost use Rattle.txn_program.specs.Placed.{ArePlaced};
 ghost use Rattle.txn_program.specs.Serial.{all_ids};
 ghost use Rattle.server_core.specs.GlobalOrder.{numbered};
 ghost use Rattle.server_core.specs.CalvinScheduler as ordered;
@@ -11,13 +10,15 @@ ghost use Rattle.server_core.specs.Outcome.{outcome};
 ghost use Rattle.server_core.specs.declared.messages.Entry as messages;
 ghost use Rattle.report.specs.Finishing.{gathered, finished_line, finished_lines_of, IsPlace};
 ghost use Rattle.report.specs.Outcomes.{with_rows, IsOver};
-ghost use Rattle.report.specs.Stories.{Tells, setting_of};
+ghost use Rattle.server_core.specs.Roles.{setting_of};
+ghost use Rattle.report.specs.Stories.{Tells};
 
 use crate::outcomes::lists::in_number_order;
-use crate::outcomes::run::Run;
 use crate::outcomes::stories::{Story, stories_of};
-use deneva_base::{Access, Key, Keyed, NoMemory, Row, RowList, TxnId, part_of};
-use server_core::{AbortList, Decided, DecidedList, Entry, GiveupList, Msg, Outcome, RunKind};
+use deneva_base::{Access, Key, Keyed, NoMemory, Row, RowList, TxnId, partition_of};
+use server_core::{
+    AbortList, Decided, DecidedList, Entry, GiveupList, Msg, Outcome, Role, RunKind,
+};
 use std::alloc::Global;
 
 /// Whether the partition has finished the transaction.
@@ -78,20 +79,19 @@ fn row_at(alloc: Global, rows: &[Keyed], key: Key) -> Result<Row, NoMemory>
 
 /// The rows of the accesses that read, as their partitions sent them.
 fn collected(
-    run: Run<'_>,
+    role: Role<'_>,
     id: TxnId,
     accesses: &[Access],
     messages: &[&Msg],
 ) -> Result<RowList, NoMemory>
-    requires { ArePlaced accesses.now }
-    ensures { IfOk result (λ rows. rows ≡ gathered run.entry.config.parts (map (λ m. m.now) messages.now) id accesses.now) }
+    ensures { IfOk result (λ rows. rows ≡ gathered role.entry.config.parts (map (λ m. m.now) messages.now) id accesses.now) }
 {
-    let mut reads = RowList::new(run.alloc);
+    let mut reads = RowList::new(role.alloc);
     for access in accesses {
         if access.mode.is_reading() {
             let key = access.key;
-            let rows = rows_from(id, part_of(key, run.config.parts), messages);
-            let row = row_at(run.alloc, rows, key)?;
+            let rows = rows_from(id, partition_of(key, role.config.parts), messages);
+            let row = row_at(role.alloc, rows, key)?;
             reads.push(Keyed { key, row })?;
         }
     }
@@ -109,39 +109,37 @@ fn number_of(parts: u8, home: u8, place: u64) -> u64
 impl Story<'_> {
     /// Whether every participant has finished the transaction.
     pub(crate) fn is_finished(&self) -> bool
-        ensures { result ≡ list_all (ordered.has_finished (map (λ m. m.now) self.now.messages.items) self.now.id) self.now.parts }
+        ensures { result ≡ list_all (ordered.has_finished (map (λ m. m.now) self.now.messages.items) self.now.id) self.now.participants }
     {
-        all_finished(self.id, self.parts.as_slice(), &self.messages)
+        all_finished(self.id, self.participants.as_slice(), &self.messages)
     }
 
     /// The line of the transaction, which every participant has finished, at this place among those of its home.
-    fn finished_line(&self, run: Run<'_>, place: u64) -> Result<Decided, NoMemory>
-        requires place { place ≤ 10000 }
-        requires placed { ArePlaced self.now.accesses }
-        ensures { IfOk result (λ line. (H : List messages.Entry) → Tells run.entry H self.now → IsPlace (setting_of run.entry) self.now.id place → line ≡ finished_line (setting_of run.entry) H self.now.id) }
+    fn finished_line(&self, role: Role<'_>, place: u64) -> Result<Decided, NoMemory>
+        requires { place ≤ 10000 }
+        ensures { IfOk result (λ line. (H : List messages.Entry) → Tells role.entry H self.now → IsPlace (setting_of role.entry) self.now.id place → line ≡ finished_line (setting_of role.entry) H self.now.id) }
     {
-        let n = number_of(run.config.parts, self.home, place);
-        let reads = collected(run, self.id, self.accesses.as_slice(), &self.messages)?;
-        let line = self.decided_as(run, n, reads)?;
+        let n = number_of(role.config.parts, self.home, place);
+        let reads = collected(role, self.id, self.accesses.as_slice(), &self.messages)?;
+        let line = self.decided_as(role, n, reads)?;
         Ok(line)
     }
 }
 
 /// The lines of the finished transactions.
-fn finished_lines(run: Run<'_>, stories: &[Story<'_>]) -> Result<DecidedList, NoMemory>
+fn finished_lines(role: Role<'_>, stories: &[Story<'_>]) -> Result<DecidedList, NoMemory>
     requires few { length stories.now ≤ 10000 }
-    requires placed { All (λ t. ArePlaced t.accesses) stories.now }
-    requires homes { All (λ t. t.home < run.config.parts) stories.now }
-    ensures { IfOk result (λ list. (H : List messages.Entry) → All (Tells run.entry H) stories.now → map (λ t. t.id) stories.now ≡ all_ids run.entry.work.now → list ≡ finished_lines_of (setting_of run.entry) H (all_ids run.entry.work.now)) }
+    requires homes { All (λ t. t.home < role.config.parts) stories.now }
+    ensures { IfOk result (λ list. (H : List messages.Entry) → All (Tells role.entry H) stories.now → map (λ t. t.id) stories.now ≡ all_ids role.entry.work.now → list ≡ finished_lines_of (setting_of role.entry) H (all_ids role.entry.work.now)) }
 {
-    let mut places = vec![in run.alloc; 0_u64; usize::from(run.config.parts)]?;
-    let mut list = DecidedList::new(run.alloc);
+    let mut places = vec![in role.alloc; 0_u64; usize::from(role.config.parts)]?;
+    let mut list = DecidedList::new(role.alloc);
     for story in stories {
         let home = usize::from(story.home);
         let place = places[home];
         places[home] = place + 1;
         if story.is_finished() {
-            list.push(story.finished_line(run, place)?)?;
+            list.push(story.finished_line(role, place)?)?;
         }
     }
     Ok(list)
@@ -149,20 +147,20 @@ fn finished_lines(run: Run<'_>, stories: &[Story<'_>]) -> Result<DecidedList, No
 
 /// The outcome of a history, with these rows.
 pub(crate) fn ordered_outcome(
-    run: Run<'_>,
+    role: Role<'_>,
     history: &[Entry],
     rows: RowList,
 ) -> Result<Outcome, NoMemory>
-    requires { run.config.protocol ≡ Calvin }
-    ensures { IfOk result (λ o. o ≡ with_rows (outcome run.entry.config run.entry.work.now (reverse history.now)) rows) }
+    requires { role.config.protocol ≡ Calvin }
+    ensures { IfOk result (λ o. o ≡ with_rows (outcome role.entry.config role.entry.work.now (reverse history.now)) rows) }
 {
-    let stories = stories_of(run, history)?;
-    let decided = in_number_order(finished_lines(run, &stories)?)?;
-    let giveups = GiveupList::new(run.alloc);
-    let aborts = AbortList::new(run.alloc);
+    let stories = stories_of(role, history)?;
+    let decided = in_number_order(finished_lines(role, &stories)?)?;
+    let giveups = GiveupList::new(role.alloc);
+    let aborts = AbortList::new(role.alloc);
     Ok(Outcome {
-        kind: RunKind::Under(run.config.protocol),
-        parts: run.config.parts,
+        kind: RunKind::Under(role.config.protocol),
+        parts: role.config.parts,
         decided,
         giveups,
         aborts,

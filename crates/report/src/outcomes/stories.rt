@@ -9,11 +9,10 @@ ghost use Rattle.report.specs.Naming.{entries_of};
 ghost use Rattle.report.specs.Stories.{Tells};
 
 use crate::outcomes::groups::{Group, group};
-use crate::outcomes::run::Run;
 use deneva_base::{AccessList, ByteList, NoMemory, TxnId};
-use server_core::{Entry, Msg};
+use server_core::{Entry, Msg, Role};
 use std::alloc::Global;
-use txn_program::{Program, accesses_of, home, parts_of};
+use txn_program::Program;
 
 /// A transaction with its entries, the newest first, and the messages among them that its home has handled.
 #[derive(Drop)]
@@ -22,7 +21,7 @@ pub(crate) struct Story<'h> {
     pub(crate) program: &'h Program,
     pub(crate) home: u8,
     pub(crate) accesses: AccessList,
-    pub(crate) parts: ByteList,
+    pub(crate) participants: ByteList,
     pub(crate) entries: Vec<&'h Entry>,
     pub(crate) messages: Vec<&'h Msg>,
 }
@@ -47,42 +46,40 @@ fn newest_first<'h>(alloc: Global, entries: &[&'h Entry]) -> Result<Vec<&'h Entr
 }
 
 /// What these entries, the oldest first, tell of their transaction.
-fn story_of<'h>(run: Run<'h>, id: TxnId, entries: &[&'h Entry]) -> Result<Story<'h>, NoMemory>
-    requires { IsIn id (all_ids run.work.now) }
+fn story_of<'h>(role: Role<'h>, id: TxnId, entries: &[&'h Entry]) -> Result<Story<'h>, NoMemory>
+    requires { IsIn id (all_ids role.work.now) }
     ensures id { IfOk result (λ t. t.id ≡ id) }
-    ensures tells { IfOk result (λ t. (H : List messages.Entry) → map (λ e. e.now) entries.now ≡ entries_of id H → Tells run.entry (reverse H) t) }
+    ensures tells { IfOk result (λ t. (H : List messages.Entry) → map (λ e. e.now) entries.now ≡ entries_of id H → Tells role.entry (reverse H) t) }
 {
-    let Run {
-        alloc,
-        config,
-        work,
-    } = run;
-    let program = work.programs.get(id.0 as usize - 1);
-    let home = home(&work.load, program, config.parts);
-    let accesses = accesses_of(alloc, &work.load, program)?;
-    let parts = parts_of(alloc, config.parts, accesses.as_slice())?;
-    let entries = newest_first(alloc, entries)?;
-    let messages = heard(alloc, home, &entries)?;
+    let program = role.program(id);
+    let home = role.home(id);
+    let accesses = role.accesses(id)?;
+    let participants = role.participants(id)?;
+    let entries = newest_first(role.alloc, entries)?;
+    let messages = heard(role.alloc, home, &entries)?;
     Ok(Story {
         id,
         program,
         home,
         accesses,
-        parts,
+        participants,
         entries,
         messages,
     })
 }
 
 /// What a history tells of each transaction.
-pub(crate) fn stories_of<'h>(run: Run<'h>, history: &'h [Entry]) -> Result<Vec<Story<'h>>, NoMemory>
-    ensures ids { IfOk result (λ v. map (λ t. t.id) v.items ≡ all_ids run.entry.work.now) }
-    ensures stories { IfOk result (λ v. All (λ t. Tells run.entry (reverse history.now) t) v.items) }
+pub(crate) fn stories_of<'h>(
+    role: Role<'h>,
+    history: &'h [Entry],
+) -> Result<Vec<Story<'h>>, NoMemory>
+    ensures ids { IfOk result (λ v. map (λ t. t.id) v.items ≡ all_ids role.entry.work.now) }
+    ensures stories { IfOk result (λ v. All (λ t. Tells role.entry (reverse history.now) t) v.items) }
 {
-    let groups = group(run.alloc, run.work.programs.len(), history)?;
-    let mut stories = Vec::with_capacity(run.alloc, groups.len())?;
+    let groups = group(role.alloc, role.work.programs.len(), history)?;
+    let mut stories = Vec::with_capacity(role.alloc, groups.len())?;
     for (place, entries) in groups.iter().enumerate() {
-        let story = story_of(run, TxnId(place as u32 + 1), entries)?;
+        let story = story_of(role, TxnId(place as u32 + 1), entries)?;
         stories.push(story)?;
     }
     Ok(stories)

@@ -8,11 +8,7 @@ use Rattle.txn_program.proofs.Ids.{id_for_each}
 use Rattle.server_core.specs.Setting.{setting, parts_for}
 use Rattle.calvin_seq.proofs.Parts.{few_parts, parts_at}
 use Rattle.calvin_seq.proofs.Places.{id_of, id_at}
-use Rattle.calvin_seq.proofs.Placing.{placed_same}
 use Rattle.calvin_seq.proofs.partitions.participant_counts.Goals as goal
-
-pub parts_of-requires-clause-placed : goal.parts_of-requires-clause-placed
-parts_of-requires-clause-placed c = placed_same c.args.work.now.load c.get.result.now c.as_slice.result.now (cc (c.in_ok-accesses.ensures))
 
 pub overflow_cast-len : goal.overflow_cast-len
 overflow_cast-len c =

@@ -4,9 +4,9 @@ use Rattle.coord.specs.Endings.{message_of_ending}
 use Rattle.coord.proofs.saying.say_to_all.Given as goal
 
 -- those so far are said, and there is room for the rest
-abbrev pub invariant-loop-part : goal.invariant-loop-part
-invariant-loop-part l =
+abbrev pub invariant-loop-participant : goal.invariant-loop-participant
+invariant-loop-participant l =
     record {
-      said : l.out.mails ≡ l.fn.out.mails ++ to_all l.from (message_of_ending l.who l.ending) (take l.part-index l.parts);
-      room : length l.parts ≤ l.out.spare + l.part-index;
+      said : l.out.mails ≡ l.fn.out.mails ++ to_all l.from (message_of_ending l.who l.ending) (take l.participant-index l.participants);
+      room : length l.participants ≤ l.out.spare + l.participant-index;
     }

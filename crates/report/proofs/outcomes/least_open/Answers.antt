@@ -3,30 +3,19 @@ use Rattle.std.proofs.lemmas.Bool.{false≢true}
 use Rattle.server_core.specs.Outcome.{outcome}
 use Rattle.report.specs.Stories.{Tells}
 use Rattle.report.specs.declared.outcomes.stories.Story.{Story}
-use Rattle.report.proofs.Gathering.{placed, story_at}
+use Rattle.report.proofs.Gathering.{story_at}
 use Rattle.report.proofs.OneByOne.{start, all_over, all_there, one_more, least_open}
 use Rattle.report.proofs.outcomes.least_open.Goals as goal
 
 pub loop-story-init : goal.loop-story-init
 loop-story-init c =
-    let r = c.args.run in
+    let r = c.args.role in
     let H = reverse c.args.history.now in
     start r H c.in_ok-stories.stories.items c.in_ok-stories.ensures.ids (outcome r.config r.work.now H)
 
-pub is_over-requires : goal.is_over-requires
-is_over-requires c =
-    let r = c.args.run in
-    let H = reverse c.args.history.now in
-    let i = c.loop-story.story-index in
-    let t = c.story-item.result in
-    let ts = c.in_ok-stories.stories.items in
-    let less = subst (λ (l : List Story). i < length l) c.deref-story-items.ensures.value c.loop-story-test.true in
-    let at = c.story-item.is ∙ ap (λ l. get_or l i t) c.deref-story-items.ensures.value in
-    placed r H t (story_at ts i t less at (Tells r H) c.in_ok-stories.ensures.stories)
-
 pub returns-then-not-branch-clause-some : goal.returns-then-not-branch-clause-some
 returns-then-not-branch-clause-some c =
-    let r = c.args.run in
+    let r = c.args.role in
     let H = reverse c.args.history.now in
     let i = c.loop-story.story-index in
     let t = c.story-item.result in
@@ -39,7 +28,7 @@ returns-then-not-branch-clause-some c =
 
 pub returns-then-not-branch-clause-quiet : goal.returns-then-not-branch-clause-quiet
 returns-then-not-branch-clause-quiet c quiet =
-    let r = c.args.run in
+    let r = c.args.role in
     let H = reverse c.args.history.now in
     let i = c.loop-story.story-index in
     let t = c.story-item.result in
@@ -51,7 +40,7 @@ returns-then-not-branch-clause-quiet c quiet =
 
 pub loop-story-preserved : goal.loop-story-preserved
 loop-story-preserved c =
-    let r = c.args.run in
+    let r = c.args.role in
     let H = reverse c.args.history.now in
     let i = c.loop-story.story-index in
     let t = c.story-item.result in
@@ -64,7 +53,7 @@ loop-story-preserved c =
 
 pub returns-clause-none : goal.returns-clause-none
 returns-clause-none c =
-    let r = c.args.run in
+    let r = c.args.role in
     let H = reverse c.args.history.now in
     let past = subst (λ (l : List Story). length l ≤ c.loop-story.story-index) c.deref-story-items.ensures.value c.loop-story-test.false in
     all_there r H c.in_ok-stories.stories.items c.in_ok-stories.ensures.ids (outcome r.config r.work.now H) c.loop-story.story-index past c.loop-story.invariant

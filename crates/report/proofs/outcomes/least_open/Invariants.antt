@@ -8,4 +8,4 @@ use Rattle.report.proofs.outcomes.least_open.Given as goal
 
 -- the transactions so far are decided or given up
 abbrev pub invariant-loop-story : goal.invariant-loop-story
-invariant-loop-story l = (x : TxnId) → IsIn x (all_ids l.run.work.now) → x.0 ≤ l.story-index → IsOver (outcome l.run.config l.run.work.now (reverse l.history)) x
+invariant-loop-story l = (x : TxnId) → IsIn x (all_ids l.role.work.now) → x.0 ≤ l.story-index → IsOver (outcome l.role.config l.role.work.now (reverse l.history)) x

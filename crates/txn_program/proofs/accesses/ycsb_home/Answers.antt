@@ -15,6 +15,6 @@ pub returns : goal.returns
 returns c =
     let same = ap (λ (a : Access). a.key) c.access.ensures ∙ first c.args.steps.now c.index-steps-0.result c.requires.steps c.index-steps-0.is in
     record {
-      home = c.part_of.ensures.part ∙ ap (λ (k : Key). partition_of k c.args.parts) same;
-      below = c.part_of.ensures.below;
+      home = c.partition_of.ensures.part ∙ ap (λ (k : Key). partition_of k c.args.parts) same;
+      below = c.partition_of.ensures.below;
     }

@@ -10,8 +10,8 @@ use Rattle.server_core.specs.GlobalOrder.{number}
 use Rattle.server_core.specs.CalvinScheduler.{is_finished, applied}
 use Rattle.server_core.specs.Setting.{Setting}
 use Rattle.server_core.specs.declared.messages.Msg.TheVariants.{Rows}
-use Rattle.calvin_seq.specs.Places.{setting_of, accesses_at}
-use Rattle.calvin_seq.specs.declared.place.Place.{Place}
+use Rattle.server_core.specs.Roles.{setting_of, accesses_at}
+use Rattle.server_core.specs.declared.role.Role.{Role}
 use Rattle.calvin_sched.specs.Arrivals.{arrivals_at}
 use Rattle.calvin_sched.specs.Freed.{freed_by, put_numbers}
 use Rattle.calvin_sched.specs.Queues.{left_by}
@@ -26,12 +26,12 @@ pub last_mails-requires-clause-known : goal.last_mails-requires-clause-known
 last_mails-requires-clause-known c =
     let n = c.args.self.now in
     let f = c.requires.fits in
-    known (setting_of n.place) (valid_at n.place) n.place.part f.0 n.locks f.1.locks
+    known (setting_of n.role) (valid_at n.role) n.role.part f.0 n.locks f.1.locks
 
 pub returns-clause-says : goal.returns-clause-says
 returns-clause-says c = λ ms stands suits.
     let n = c.args.self.now in
-    let a : Place = n.place in
+    let a : Role = n.role in
     let s : Setting = setting_of a in
     let x = c.args.id in
     let q = c.args.part in
@@ -50,7 +50,7 @@ returns-clause-says c = λ ms stands suits.
 pub returns-clause-stands : goal.returns-clause-stands
 returns-clause-stands c = λ ms stands suits.
     let n = c.args.self.now in
-    let a : Place = n.place in
+    let a : Role = n.role in
     let s : Setting = setting_of a in
     let v : Valid s = valid_at a in
     let x = c.args.id in

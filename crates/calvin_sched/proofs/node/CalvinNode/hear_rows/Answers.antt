@@ -5,8 +5,8 @@ use Rattle.server_core.specs.CalvinProper.{Valid}
 use Rattle.server_core.specs.CalvinScheduler.{is_finished}
 use Rattle.server_core.specs.Setting.{Setting}
 use Rattle.server_core.specs.declared.messages.Msg.TheVariants.{Rows}
-use Rattle.calvin_seq.specs.Places.{setting_of}
-use Rattle.calvin_seq.specs.declared.place.Place.{Place}
+use Rattle.server_core.specs.Roles.{setting_of}
+use Rattle.server_core.specs.declared.role.Role.{Role}
 use Rattle.calvin_sched.specs.Arrivals.{arrivals_at, Sets}
 use Rattle.calvin_sched.proofs.After.{valid_at, batches_kept, says_nothing, locks_kept, versions_kept}
 use Rattle.calvin_sched.proofs.Coming.{complete_is, arrivals_added}
@@ -25,11 +25,11 @@ returns-in_ok-rows-clause-says c =
     on_ok_weaker c.add.result
     (λ sets ms stands suits.
     let n = c.args.self.now in
-    let s : Setting = setting_of n.place in
+    let s : Setting = setting_of n.role in
     let rows : List Keyed = c.args.rows.now in
     let un : is_finished s (Rows c.args.id c.args.part rows ∷ ms) c.args.id ≡ false
-    = sym (complete_is s n.place.part ms stands.fit c.args.id c.args.part rows suits n.arrivals stands.arrivals) ∙ sym (c.is_complete.ensures c.args.part rows ms stands suits) ∙ c.if-is_complete.false in
-    sym (ap (λ l. c.args.out.now.mails ++ l) (says_nothing s (valid_at n.place) n.place.part ms stands.fit c.args.id c.args.part rows suits un) ∙ append-nil c.args.out.now.mails))
+    = sym (complete_is s n.role.part ms stands.fit c.args.id c.args.part rows suits n.arrivals stands.arrivals) ∙ sym (c.is_complete.ensures c.args.part rows ms stands suits) ∙ c.if-is_complete.false in
+    sym (ap (λ l. c.args.out.now.mails ++ l) (says_nothing s (valid_at n.role) n.role.part ms stands.fit c.args.id c.args.part rows suits un) ∙ append-nil c.args.out.now.mails))
     c.add.ensures.ok
 
 pub returns-in_ok-rows-clause-stands : goal.returns-in_ok-rows-clause-stands
@@ -37,7 +37,7 @@ returns-in_ok-rows-clause-stands c =
     on_ok_weaker c.add.result
     (λ sets ms stands suits.
     let n = c.args.self.now in
-    let a : Place = n.place in
+    let a : Role = n.role in
     let s : Setting = setting_of a in
     let v : Valid s = valid_at a in
     let x = c.args.id in

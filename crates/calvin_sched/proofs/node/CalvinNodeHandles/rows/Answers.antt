@@ -10,7 +10,7 @@ use Rattle.server_core.specs.CalvinScheduler.{now}
 use Rattle.server_core.specs.Roles.{rows_of_role}
 use Rattle.server_core.specs.declared.messages.Msg.{Msg}
 use Rattle.server_core.proofs.configured.Families.{family_orders}
-use Rattle.calvin_seq.specs.Places.{role_of, setting_of}
+use Rattle.server_core.specs.Roles.{role_of, setting_of}
 use Rattle.calvin_sched.specs.Standing.{CalvinStands}
 use Rattle.calvin_sched.specs.Versions.{version}
 use Rattle.calvin_sched.specs.declared.node.CalvinNode.{CalvinNode}
@@ -22,12 +22,12 @@ row_if true v row e = e
 row_if false v row e = refl
 
 -- the rows of the store are those of the node
-rows_stand : (n : CalvinNode) (ms : List Msg) (key : Key) → CalvinStands n ms → row_in n.store key ≡ rows_of_role (role_of n.place) ms key
+rows_stand : (n : CalvinNode) (ms : List Msg) (key : Key) → CalvinStands n ms → row_in n.store key ≡ rows_of_role (role_of n.role) ms key
 rows_stand n ms key stands =
     ap (λ v. option_map (λ (x : Version). x.row) v) (stands.versions key)
-    ∙ row_if (eqb (partition_of key n.place.config.parts) n.place.part) (version (setting_of n.place) n.place.part ms key) (now (setting_of n.place) n.place.part ms key)
-    (versions_are_rows n.place.config n.place.work.now n.place.part ms key n.place.ranges n.place.valid)
-    ∙ sym (ap (λ (f : Family). f.rows (setting_of n.place) n.place.part ms key) (family_orders n.place.config.protocol stands.ordered))
+    ∙ row_if (eqb (partition_of key n.role.config.parts) n.role.part) (version (setting_of n.role) n.role.part ms key) (now (setting_of n.role) n.role.part ms key)
+    (versions_are_rows n.role.config n.role.work.now n.role.part ms key n.role.ranges n.role.valid)
+    ∙ sym (ap (λ (f : Family). f.rows (setting_of n.role) n.role.part ms key) (family_orders n.role.config.protocol stands.ordered))
 
 pub returns-clause-rows : goal.returns-clause-rows
 returns-clause-rows c =

@@ -1,6 +1,7 @@
 use Rattle.std.proofs.Common.{rules, ◌≡◌, ◌++◌, ◌∙◌, map, ap, ap₂, arith}
 use Rattle.std.proofs.lemmas.Grind.{common_steps}
-use Rattle.coord.specs.Attempts.{state_of, setting_at}
+use Rattle.server_core.specs.Roles.{setting_of}
+use Rattle.coord.specs.Attempts.{state_of}
 use Rattle.coord.specs.Ballots.{ballot_of}
 use Rattle.coord.specs.States.{State, decision_mails, participants_of}
 use Rattle.coord.proofs.Votes.{voted_on, voted_last, quiet_on, told_last, ballots_more, with_ballots}
@@ -11,26 +12,26 @@ returns-then-not-is_last-clause-ok c =
     let t = state_of c.args.self.now in
     let more = ap (map ballot_of) c.in_ok-push.ensures.items ∙ ballots_more c.args.self.now.ballots.items c.args.ballot in
     ap₂ (λ bs l. with_ballots bs l t) more c.take_out.ensures
-    ∙ voted_on (setting_at c.args.home.now) (ballot_of c.args.ballot) t (search rules)
+    ∙ voted_on (setting_of c.args.role.now) (ballot_of c.args.ballot) t (search rules)
 
 pub returns-then-not-is_last-clause-said : goal.returns-then-not-is_last-clause-said
-returns-then-not-is_last-clause-said c = quiet_on (setting_at c.args.home.now) (ballot_of c.args.ballot) (state_of c.args.self.now) c.args.home.now.part c.args.who c.args.out.now.mails (search rules)
+returns-then-not-is_last-clause-said c = quiet_on (setting_of c.args.role.now) (ballot_of c.args.ballot) (state_of c.args.self.now) c.args.role.now.part c.args.who c.args.out.now.mails (search rules)
 
 pub returns-in-Ok-clause-ok : goal.returns-in-Ok-clause-ok
 returns-in-Ok-clause-ok c =
     let t = state_of c.args.self.now in
     let more = ap (map ballot_of) c.in_ok-push.ensures.items ∙ ballots_more c.args.self.now.ballots.items c.args.ballot in
     c.in-Ok.ensures.ok
-    ∙ ap (λ bs. with_ballots bs (participants_of (setting_at c.args.home.now) t) t) more
-    ∙ voted_last (setting_at c.args.home.now) (ballot_of c.args.ballot) t (search rules)
+    ∙ ap (λ bs. with_ballots bs (participants_of (setting_of c.args.role.now) t) t) more
+    ∙ voted_last (setting_of c.args.role.now) (ballot_of c.args.ballot) t (search rules)
 
 pub returns-in-Ok-clause-said : goal.returns-in-Ok-clause-said
 returns-in-Ok-clause-said c =
     let t = state_of c.args.self.now in
     let more = ap (map ballot_of) c.in_ok-push.ensures.items ∙ ballots_more c.args.self.now.ballots.items c.args.ballot in
     c.in-Ok.ensures.said
-    ∙ ap (λ bs. c.args.out.now.mails ++ decision_mails (setting_at c.args.home.now) c.args.home.now.part c.args.who (with_ballots bs t.left t)) more
-    ∙ ap (λ l. c.args.out.now.mails ++ l) (told_last (setting_at c.args.home.now) (ballot_of c.args.ballot) t c.args.home.now.part c.args.who (search rules))
+    ∙ ap (λ bs. c.args.out.now.mails ++ decision_mails (setting_of c.args.role.now) c.args.role.now.part c.args.who (with_ballots bs t.left t)) more
+    ∙ ap (λ l. c.args.out.now.mails ++ l) (told_last (setting_of c.args.role.now) (ballot_of c.args.ballot) t c.args.role.now.part c.args.who (search rules))
 
 pub returns-in-Err-clause-err : goal.returns-in-Err-clause-err
 returns-in-Err-clause-err c =

@@ -10,7 +10,7 @@ pub returns-then-is_last-clause-said : goal.returns-then-is_last-clause-said
 returns-then-is_last-clause-said c = on_ok_weaker c.end.result (λ e t is. said_now _ t _ _ _ (sym (c.is_last.ensures t is) ∙ c.if-is_last.true) e) c.end.ensures.said
 
 pub returns-clause-ok : goal.returns-clause-ok
-returns-clause-ok c t is = done_on _ _ _ _ t (sym (c.is_last.ensures t is) ∙ c.if-is_last.false) (record { home = refl; fixed = refl; homes = refl; count = refl; place = refl; sets = c.closed.ensures t is })
+returns-clause-ok c t is = done_on _ _ _ _ t (sym (c.is_last.ensures t is) ∙ c.if-is_last.false) (record { role = refl; fixed = refl; homes = refl; count = refl; place = refl; sets = c.closed.ensures t is })
 
 pub returns-clause-said : goal.returns-clause-said
 returns-clause-said c t is = said_on _ t _ _ _ (sym (c.is_last.ensures t is) ∙ c.if-is_last.false) refl

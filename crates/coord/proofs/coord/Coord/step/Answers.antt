@@ -1,7 +1,7 @@
 use Rattle.std.proofs.Common.{refl}
 use Rattle.std.proofs.lemmas.Result.{on_ok_weaker}
 use Rattle.coord.specs.Open.{state_at}
-use Rattle.coord.proofs.Messages.{open_placed, stamps_few, next_few, start_id, start_says, start_stands_for, granted_id, granted_says, granted_stands, refused_small, refused_more, refused_says, refused_stands, yes_says, yes_stands, no_says, no_stands, done_says, done_stands, undone_says, undone_stands}
+use Rattle.coord.proofs.Messages.{stamps_few, next_few, start_id, start_says, start_stands_for, granted_id, granted_says, granted_stands, refused_small, refused_more, refused_says, refused_stands, yes_says, yes_stands, no_says, no_stands, done_says, done_stands, undone_says, undone_stands}
 use Rattle.coord.proofs.Passing.{other_kind, quiet_says, quiet_stands}
 use Rattle.coord.proofs.coord.Coord.step.Goals as goal
 
@@ -13,33 +13,17 @@ pub start-requires-clause-counter : goal.start-requires-clause-counter
 start-requires-clause-counter c =
     let f = c.requires.fits in stamps_few c.args.self.now f.1.0 f.1.1.0 c.args.msg.now f.0 f.1.1.1
 
-pub granted-requires-clause-id : goal.granted-requires-clause-id
-granted-requires-clause-id c =
+pub granted-requires : goal.granted-requires
+granted-requires c =
     let f = c.requires.fits in granted_id c.args.self.now f.1.0 f.1.1.0 c.args.msg.now f.0 f.1.1.1 c.in-Granted.who c.in-Granted.key c.in-Granted.row c.in-Granted.version c.in-Granted.bound c.in-Granted.is
-
-pub granted-requires-clause-placed : goal.granted-requires-clause-placed
-granted-requires-clause-placed c =
-    let f = c.requires.fits in open_placed c.args.self.now f.1.0 f.1.1.0 c.in-Granted.who.txn
 
 pub refused-requires-clause-small : goal.refused-requires-clause-small
 refused-requires-clause-small c =
     let f = c.requires.fits in refused_small c.args.self.now f.1.0 f.1.1.0 c.args.msg.now f.0 f.1.1.1 c.in-Refused.who c.in-Refused.key c.in-Refused.cause c.in-Refused.is
 
-pub refused-requires-clause-placed : goal.refused-requires-clause-placed
-refused-requires-clause-placed c =
-    let f = c.requires.fits in open_placed c.args.self.now f.1.0 f.1.1.0 c.in-Refused.who.txn
-
 pub refused-requires-clause-more : goal.refused-requires-clause-more
 refused-requires-clause-more c =
     let f = c.requires.fits in refused_more c.args.self.now f.1.0 f.1.1.0 c.args.msg.now f.0 f.1.1.1 c.in-Refused.who c.in-Refused.key c.in-Refused.cause c.in-Refused.is
-
-pub voted-requires : goal.voted-requires
-voted-requires c =
-    let f = c.requires.fits in record { placed = open_placed c.args.self.now f.1.0 f.1.1.0 c.in-Yes.who.txn }
-
-pub voted-requires-in-No : goal.voted-requires-in-No
-voted-requires-in-No c =
-    let f = c.requires.fits in record { placed = open_placed c.args.self.now f.1.0 f.1.1.0 c.in-No.who.txn }
 
 pub done-requires : goal.done-requires
 done-requires c =

@@ -6,11 +6,8 @@ use Rattle.coord.specs.States.{State}
 use Rattle.coord.proofs.Opens.{keep_state}
 use Rattle.coord.proofs.open.OpenTxns.refused.Goals as goal
 
-pub refused-requires-clause-placed : goal.refused-requires-clause-placed
-refused-requires-clause-placed c = c.requires.placed (state_of c.in-Some.attempt.now) (ap (option_map state_of) (sym c.in-Some.ensures.value))
-
-pub refused-requires-clause-more : goal.refused-requires-clause-more
-refused-requires-clause-more c = c.requires.more (state_of c.in-Some.attempt.now) (ap (option_map state_of) (sym c.in-Some.ensures.value))
+pub refused-requires : goal.refused-requires
+refused-requires c = c.requires (state_of c.in-Some.attempt.now) (ap (option_map state_of) (sym c.in-Some.ensures.value))
 
 pub returns-in-Some-clause-err : goal.returns-in-Some-clause-err
 returns-in-Some-clause-err c =

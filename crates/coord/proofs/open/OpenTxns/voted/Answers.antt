@@ -1,13 +1,10 @@
-use Rattle.std.proofs.Common.{rules, sym, ap, ◌∙◌, Some}
+use Rattle.std.proofs.Common.{rules, ap, ◌∙◌, Some}
 use Rattle.std.specs.Prelude.{option_map}
 use Rattle.std.proofs.lemmas.Result.{on_err_weaker}
 use Rattle.coord.specs.Attempts.{state_of}
 use Rattle.coord.specs.States.{State}
 use Rattle.coord.proofs.Opens.{keep_state}
 use Rattle.coord.proofs.open.OpenTxns.voted.Goals as goal
-
-pub voted-requires : goal.voted-requires
-voted-requires c = record { placed = c.requires.placed (state_of c.in-Some.attempt.now) (ap (option_map state_of) (sym c.in-Some.ensures.value)) }
 
 pub returns-in-Some-clause-err : goal.returns-in-Some-clause-err
 returns-in-Some-clause-err c =

@@ -2,7 +2,8 @@ use Rattle.std.proofs.Common.{map, ap, ◌∙◌}
 use Rattle.std.specs.List.{flat_map}
 use Rattle.std.proofs.lemmas.List.{take_all}
 use Rattle.server_core.specs.Aborts.{turns}
-use Rattle.report.specs.Stories.{Tells, setting_of}
+use Rattle.server_core.specs.Roles.{setting_of}
+use Rattle.report.specs.Stories.{Tells}
 use Rattle.report.proofs.Gathering.{story_at, story_more}
 use Rattle.report.proofs.outcomes.lists.aborts_of.Goals as goal
 
@@ -12,10 +13,10 @@ loop-story-preserved c H all =
     let i = c.loop-story.story-index in
     let t = c.story-item.result in
     let list = c.loop-story.list in
-    let k = story_at ts i t c.loop-story-test.true c.story-item.is (Tells c.args.run H) all in
-    story_more ts i t c.loop-story-test.true c.story-item.is (λ x. turns (setting_of c.args.run) H x c.args.run.config.attempts) list c.push_aborts.new.lines (c.loop-story.invariant H all)
+    let k = story_at ts i t c.loop-story-test.true c.story-item.is (Tells c.args.role H) all in
+    story_more ts i t c.loop-story-test.true c.story-item.is (λ x. turns (setting_of c.args.role) H x c.args.role.config.attempts) list c.push_aborts.new.lines (c.loop-story.invariant H all)
     (c.in_ok-push_aborts.ensures H k)
 
 pub returns : goal.returns
 returns c H all =
-    c.loop-story.invariant H all ∙ ap (λ l. flat_map (λ x. turns (setting_of c.args.run) H x c.args.run.config.attempts) (map (λ t. t.id) l)) (take_all c.loop-story.story-index c.args.stories.now c.loop-story-test.false)
+    c.loop-story.invariant H all ∙ ap (λ l. flat_map (λ x. turns (setting_of c.args.role) H x c.args.role.config.attempts) (map (λ t. t.id) l)) (take_all c.loop-story.story-index c.args.stories.now c.loop-story-test.false)

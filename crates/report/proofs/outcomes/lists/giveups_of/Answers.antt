@@ -1,6 +1,7 @@
 use Rattle.std.proofs.Common.{◌++◌, option_to_list, ap, sym, ◌∙◌, append-nil}
 use Rattle.report.specs.ByTransaction.{giveups_for}
-use Rattle.report.specs.Stories.{Tells, setting_of}
+use Rattle.server_core.specs.Roles.{setting_of}
+use Rattle.report.specs.Stories.{Tells}
 use Rattle.report.proofs.Gathering.{story_at, story_more}
 use Rattle.report.proofs.outcomes.lists.giveups_of.Goals as goal
 use Rattle.report.proofs.outcomes.lists.giveups_of.Goals.{in-Some+in_ok-push, in_default}
@@ -11,8 +12,8 @@ loop-story-preserved c H all =
     let i = c.loop-story.story-index in
     let t = c.story-item.result in
     let list = c.loop-story.list in
-    let k = story_at ts i t c.loop-story-test.true c.story-item.is (Tells c.args.run H) all in
-    story_more ts i t c.loop-story-test.true c.story-item.is (giveups_for (setting_of c.args.run) H) list c.match-branch-2.list (c.loop-story.invariant H all)
+    let k = story_at ts i t c.loop-story-test.true c.story-item.is (Tells c.args.role H) all in
+    story_more ts i t c.loop-story-test.true c.story-item.is (giveups_for (setting_of c.args.role) H) list c.match-branch-2.list (c.loop-story.invariant H all)
     (elim c.match-branch-2.branch [
       | in-Some+in_ok-push w ↦ w.list-is ∙ w.in_ok-push.ensures.ok ∙ ap (λ o. list ++ option_to_list o) (sym w.in-Some.is)
       | in_default w ↦ w.list-is ∙ sym (append-nil list) ∙ ap (λ o. list ++ option_to_list o) (sym w.in_default.is)

@@ -3,7 +3,6 @@ use Rattle.std.specs.List.{All, IsDistinct}
 use Rattle.std.proofs.lemmas.List.{length-map}
 use Rattle.std.proofs.lemmas.List.Elements.{All-weaker}
 use Rattle.deneva_base.specs.Keys.{id_eq}
-use Rattle.txn_program.specs.Placed.{ArePlaced}
 use Rattle.txn_program.specs.Serial.{all_ids}
 use Rattle.txn_program.proofs.Ids.{distinct_ids, few_ids}
 use Rattle.server_core.specs.Lines.{sort_lines}
@@ -13,9 +12,10 @@ use Rattle.server_core.specs.declared.outcomes.Outcome.{Outcome}
 use Rattle.server_core.specs.declared.outcomes.RunKind.TheVariants.{Under}
 use Rattle.server_core.proofs.configured.Families.{family_orders}
 use Rattle.report.specs.Outcomes.{with_rows}
-use Rattle.report.specs.Stories.{Tells, setting_of}
+use Rattle.server_core.specs.Roles.{setting_of}
+use Rattle.report.specs.Stories.{Tells}
 use Rattle.report.specs.declared.outcomes.stories.Story.{Story}
-use Rattle.report.proofs.Gathering.{all_placed, home_below}
+use Rattle.report.proofs.Gathering.{home_below}
 use Rattle.report.proofs.OrderedLines.{distinct_lines, sorted_by_order}
 use Rattle.report.proofs.outcomes.ordered.ordered_outcome.Goals as goal
 
@@ -24,23 +24,18 @@ finished_lines-requires-clause-few c =
     let count = ap length c.in_ok-stories.ensures.ids in
     let same = length-map c.in_ok-stories.stories.items (λ (t : Story). t.id) in
     let all = ap length c.deref.ensures.value in
-    omega (arith, count, same, all, few_ids c.args.run.work.now c.args.run.valid)
-
-pub finished_lines-requires-clause-placed : goal.finished_lines-requires-clause-placed
-finished_lines-requires-clause-placed c =
-    subst (λ (l : List Story). All (λ t. ArePlaced t.accesses) l) (sym c.deref.ensures.value)
-    (all_placed c.args.run (reverse c.args.history.now) c.in_ok-stories.stories.items c.in_ok-stories.ensures.stories)
+    omega (arith, count, same, all, few_ids c.args.role.work.now c.args.role.valid)
 
 pub finished_lines-requires-clause-homes : goal.finished_lines-requires-clause-homes
 finished_lines-requires-clause-homes c =
-    let r = c.args.run in
+    let r = c.args.role in
     let H = reverse c.args.history.now in
     subst (λ (l : List Story). All (λ t. t.home < r.config.parts) l) (sym c.deref.ensures.value)
     (All-weaker (Tells r H) (λ t. t.home < r.config.parts) (home_below r H) c.in_ok-stories.stories.items c.in_ok-stories.ensures.stories)
 
 pub in_number_order-requires : goal.in_number_order-requires
 in_number_order-requires c =
-    let r = c.args.run in
+    let r = c.args.role in
     let H = reverse c.args.history.now in
     let all = subst (λ (l : List Story). All (Tells r H) l) (sym c.deref.ensures.value) c.in_ok-stories.ensures.stories in
     let ids = ap (map (λ (t : Story). t.id)) c.deref.ensures.value ∙ c.in_ok-stories.ensures.ids in
@@ -48,7 +43,7 @@ in_number_order-requires c =
 
 pub returns : goal.returns
 returns c =
-    let r = c.args.run in
+    let r = c.args.role in
     let w = r.work.now in
     let H = reverse c.args.history.now in
     let all = subst (λ (l : List Story). All (Tells r H) l) (sym c.deref.ensures.value) c.in_ok-stories.ensures.stories in

@@ -8,6 +8,6 @@ use Rattle.report.proofs.outcomes.stories.stories_of.Given as goal
 abbrev pub invariant-loop-place : goal.invariant-loop-place
 invariant-loop-place l =
     record {
-      ids : map (λ t. t.id) l.stories.items ≡ take l.place (all_ids l.run.work.now);
-      stories : All (λ t. Tells l.run (reverse l.history) t) l.stories.items;
+      ids : map (λ t. t.id) l.stories.items ≡ take l.place (all_ids l.role.work.now);
+      stories : All (λ t. Tells l.role (reverse l.history) t) l.stories.items;
     }

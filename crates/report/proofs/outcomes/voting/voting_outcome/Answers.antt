@@ -1,7 +1,6 @@
 use Rattle.std.proofs.Common.{List, map, reverse, subst, ap, sym, ◌∙◌}
 use Rattle.std.specs.List.{All, flat_map, IsDistinct}
 use Rattle.deneva_base.specs.Keys.{id_eq}
-use Rattle.txn_program.specs.Placed.{ArePlaced}
 use Rattle.server_core.specs.Aborts.{turns}
 use Rattle.server_core.specs.Lines.{sort_lines}
 use Rattle.server_core.specs.Outcome.{outcome_in}
@@ -11,29 +10,24 @@ use Rattle.server_core.specs.declared.outcomes.RunKind.TheVariants.{Under}
 use Rattle.server_core.proofs.configured.Families.{family_votes}
 use Rattle.report.specs.ByTransaction.{lines_for, giveups_for}
 use Rattle.report.specs.Outcomes.{with_rows}
-use Rattle.report.specs.Stories.{Tells, setting_of}
+use Rattle.server_core.specs.Roles.{setting_of}
+use Rattle.report.specs.Stories.{Tells}
 use Rattle.report.specs.declared.outcomes.stories.Story.{Story}
-use Rattle.report.proofs.Gathering.{all_placed}
 use Rattle.report.proofs.VotedOutcomes.{apart}
 use Rattle.report.proofs.outcomes.voting.voting_outcome.Goals as goal
 
 pub in_number_order-requires : goal.in_number_order-requires
 in_number_order-requires c =
-    let r = c.args.run in
+    let r = c.args.role in
     let H = reverse c.args.history.now in
     let s = setting_of r in
     let all = subst (λ (l : List Story). All (Tells r H) l) (sym c.deref.ensures.value) c.in_ok-stories.ensures.stories in
     let are = c.in_ok-lines_of.ensures H all ∙ ap (λ l. flat_map (lines_for s H) (map (λ t. t.id) l)) c.deref.ensures.value ∙ ap (flat_map (lines_for s H)) c.in_ok-stories.ensures.ids in
     subst (λ (l : List Decided). IsDistinct id_eq (map (λ l. l.number.id) l)) (sym are) (apart s H 1 r.work.now.programs)
 
-pub giveups_of-requires : goal.giveups_of-requires
-giveups_of-requires c =
-    subst (λ (l : List Story). All (λ t. ArePlaced t.accesses) l) (sym c.deref-2.ensures.value)
-    (all_placed c.args.run (reverse c.args.history.now) c.in_ok-stories.stories.items c.in_ok-stories.ensures.stories)
-
 pub returns : goal.returns
 returns c =
-    let r = c.args.run in
+    let r = c.args.role in
     let H = reverse c.args.history.now in
     let s = setting_of r in
     let ids = c.in_ok-stories.ensures.ids in

@@ -3,7 +3,7 @@ use Rattle.std.proofs.lemmas.Result.{IfOk-weaker}
 use Rattle.server_core.specs.Aborts.{abort_lines, refusal_for}
 use Rattle.server_core.specs.Ends.{attempt}
 use Rattle.report.specs.Seen.{refusal_of}
-use Rattle.report.specs.Stories.{setting_of}
+use Rattle.server_core.specs.Roles.{setting_of}
 use Rattle.report.proofs.Aborting.{refusals_told}
 use Rattle.report.proofs.outcomes.stories.Story.abort_line.Goals as goal
 
@@ -11,8 +11,8 @@ pub returns-in-Some : goal.returns-in-Some
 returns-in-Some c H k =
     let t = c.args.self.now in
     let who = attempt t.id c.args.turn in
-    let is = sym (ap refusal_of c.in-Some.is) ∙ c.refusal_for.ensures ∙ ap₂ refusal_for c.attempt.ensures (ap (map (λ m. m.now)) c.deref.ensures.value) ∙ refusals_told c.args.run H t k c.args.turn in
-    c.refusal_line.ensures c.args.run H k ∙ ap (abort_lines (setting_of c.args.run) H who) is
+    let is = sym (ap refusal_of c.in-Some.is) ∙ c.refusal_for.ensures ∙ ap₂ refusal_for c.attempt.ensures (ap (map (λ m. m.now)) c.deref.ensures.value) ∙ refusals_told c.args.role H t k c.args.turn in
+    c.refusal_line.ensures c.args.role H k ∙ ap (abort_lines (setting_of c.args.role) H who) is
 
 pub returns-in-None : goal.returns-in-None
 returns-in-None c =
@@ -20,6 +20,6 @@ returns-in-None c =
     (λ line is H k.
     let t = c.args.self.now in
     let who = attempt t.id c.args.turn in
-    let none = sym (ap refusal_of c.in-None.is) ∙ c.refusal_for.ensures ∙ ap₂ refusal_for c.attempt.ensures (ap (map (λ m. m.now)) c.deref.ensures.value) ∙ refusals_told c.args.run H t k c.args.turn in
-    is H k ∙ ap (abort_lines (setting_of c.args.run) H who) none)
+    let none = sym (ap refusal_of c.in-None.is) ∙ c.refusal_for.ensures ∙ ap₂ refusal_for c.attempt.ensures (ap (map (λ m. m.now)) c.deref.ensures.value) ∙ refusals_told c.args.role H t k c.args.turn in
+    is H k ∙ ap (abort_lines (setting_of c.args.role) H who) none)
     c.voted_line.ensures

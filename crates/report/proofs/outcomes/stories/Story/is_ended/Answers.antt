@@ -1,12 +1,12 @@
 use Rattle.std.proofs.Common.{◌||◌, is_some, refl, ap, sym, ◌∙◌}
 use Rattle.server_core.specs.Ends.{attempt, all_undone}
-use Rattle.report.specs.Stories.{setting_of}
+use Rattle.server_core.specs.Roles.{setting_of}
 use Rattle.report.proofs.VotedOutcomes.{over_there, over_here, still_some}
 use Rattle.report.proofs.outcomes.stories.Story.is_ended.Goals as goal
 
 pub returns-then-is_some : goal.returns-then-is_some
 returns-then-is_some c H k =
-    let r = c.args.run in
+    let r = c.args.role in
     let x = c.args.self.now.id in
     let s = setting_of r in
     let some = sym (ap is_some (c.done_turn.ensures r H k)) ∙ still_some (attempt x) c.done_turn.result ∙ sym c.is_some.ensures ∙ c.if-is_some.true in
@@ -14,7 +14,7 @@ returns-then-is_some c H k =
 
 pub returns : goal.returns
 returns c H k =
-    let r = c.args.run in
+    let r = c.args.role in
     let x = c.args.self.now.id in
     let s = setting_of r in
     let none = sym (ap is_some (c.done_turn.ensures r H k)) ∙ still_some (attempt x) c.done_turn.result ∙ sym c.is_some.ensures ∙ c.if-is_some.false in

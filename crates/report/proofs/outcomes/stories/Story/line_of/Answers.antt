@@ -11,7 +11,7 @@ returns c H k =
     let t = c.args.self.now in
     let rows = map (λ r. r.now) c.in_ok-rows.rows.items in
     c.in_ok-line.ensures H k
-    ∙ line_told c.args.run H t k c.args.turn c.committed_n-n.result rows c.push_reads.new.reads
+    ∙ line_told c.args.role H t k c.args.turn c.committed_n-n.result rows c.push_reads.new.reads
     (c.committed_n-n.ensures ∙ ap₂ committed_n c.attempt-who.ensures (ap (map (λ e. e.now)) c.deref-3.ensures.value))
     (c.in_ok-rows.ensures ∙ ap (λ l. map (λ r. r.row) (reverse l)) (ap₂ grants_for c.attempt-who.ensures (ap (map (λ m. m.now)) c.deref.ensures.value)))
     (c.in_ok-push_reads.ensures ∙ ap₂ (λ a b. a ++ b) c.new-reads.ensures (ap₂ reads_of c.as_slice.ensures (ap (λ l. map reply_of (map (λ r. r.now) l)) c.deref-2.ensures.value)))

@@ -1,7 +1,0 @@
-use Rattle.std.proofs.Common.{◌≡◌, ◌++◌, drop}
-use Rattle.node_core.specs.Loading.{rows_at}
-use Rattle.node_core.proofs.loading.rows_at.Given as goal
-
--- those so far and those of what is left are those of all
-abbrev pub invariant-loop-keyed : goal.invariant-loop-keyed
-invariant-loop-keyed l = l.here ++ rows_at l.parts l.part (drop l.keyed-index l.rows) ≡ rows_at l.parts l.part l.rows

@@ -1,0 +1,3 @@
+-- The homes of transactions, and the rows that lie at a partition.
+pub mod Homes
+pub mod Loads
