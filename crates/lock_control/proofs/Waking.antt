@@ -1,14 +1,12 @@
 -- The table tracks the history whose last call woke the waiters at the front.
-use Rattle.std.proofs.Common.{◌≡◌, ◌≢◌, ◌⊎◌, leb, ◌+◌, List, [], ◌∷◌, ◌++◌, map, filter, Bool, true, false, not, ◌&&◌, cond, length, refl, sym, ap, ap₂, ◌∙◌, subst, inl, inr, ⊎_elim, arith, option_map, true≢false}
-use Rattle.std.specs.List.{list_any}
+use Rattle.std.proofs.Common.{◌≡◌, ◌≢◌, ◌⊎◌, leb, ◌+◌, List, [], ◌∷◌, ◌++◌, map, filter, Bool, true, false, not, ◌&&◌, cond, length, refl, sym, ap, ◌∙◌, subst, inl, inr, ⊎_elim, arith, true≢false}
 use Rattle.deneva_base.specs.declared.keys.Key.{Key}
 use Rattle.deneva_base.specs.declared.numbers.Attempt.{Attempt}
 use Rattle.deneva_base.specs.Lists.{IsIn}
 use Rattle.deneva_base.specs.Rows.{Rows}
 use Rattle.deneva_base.specs.Keys.{key_eq, attempt_eq}
 use Rattle.deneva_base.specs.Modes.{writes}
-use Rattle.protocol_rules.specs.History.{History, Asked, Grant, Yea, Decided, grant_of, grant_of_wake, grants, waits, yeas, decided, ended, is_woken, IsUnended}
-use Rattle.protocol_rules.specs.Latest.{writes_in}
+use Rattle.protocol_rules.specs.History.{History, Asked, Grant, Decided, grant_of, grant_of_wake, grants, waits, yeas, decided, ended, is_woken, IsUnended}
 use Rattle.protocol_rules.specs.Order.{by_falling_stamp}
 use Rattle.deneva_base.specs.Lists.{insert, sort}
 use Rattle.protocol_rules.specs.WaitDie.{front, wake_of, wakes, none, is_free}
@@ -19,16 +17,19 @@ use Rattle.protocol_rules.proofs.Sorts.{sort_in, in_sort}
 use Rattle.protocol_rules.proofs.WaitDies.{front_in}
 use Rattle.protocol_rules.proofs.Wakes.{woken_in, in_woken, wake_grants, grant_wakes}
 use Rattle.control_core.specs.Leaving.{last}
-use Rattle.control_core.proofs.Lasts.{appends_in}
 use Rattle.lock_control.specs.declared.requests.Request.{Request}
 use Rattle.lock_control.specs.declared.lines.Waiter.{Waiter}
 use Rattle.lock_control.specs.declared.table.Table.{Table}
 use Rattle.lock_control.specs.Requests.{grants_to}
-use Rattle.lock_control.specs.Tables.{Locks, Holding, same_key, granted_in, all_granted, holding_at}
+use Rattle.lock_control.specs.Seen.{Locks}
+use Rattle.lock_control.specs.Locks.{granted_in}
+use Rattle.key_table.specs.Keys.{same_key}
+use Rattle.lock_control.specs.Tables.{all_granted}
 use Rattle.lock_control.specs.Changes.{Wakes}
-use Rattle.row_store.specs.Stores.{version_at}
-use Rattle.lock_control.specs.Standing.{State, state_of, owner_of, waiter_of, IsOwner, IsWaiter, any_mode, Falling, Rising, Tracks, version_of, promised_in}
-use Rattle.lock_control.proofs.Places.{same_tells}
+use Rattle.lock_control.specs.Standing.{State, state_of, owner_of, waiter_of, IsOwner, IsWaiter, any_mode, Falling, Tracks}
+use Rattle.shelf.specs.Keeps.{KeepsRows}
+use Rattle.shelf.proofs.Keeps.{keeps_resumed}
+use Rattle.key_table.proofs.Places.{same_tells}
 use Rattle.lock_control.proofs.Asking.{top_stays}
 
 -- a request after these are granted
@@ -116,10 +117,6 @@ by_stamp (x ∷ ws) key r = go (same_key x.key key) (λ q. by_stamp ws key q)
 falling_map : (f : Request → Request) (rs : List Request) → ((r : Request) → (f r).stamp ≡ r.stamp) → Falling rs → Falling (map f rs)
 falling_map f [] e a = tt
 falling_map f (r ∷ rs) e a = ((λ x i. let b = in_map_from f x rs i in let less = a.0 b.0 b.1 in omega (arith, less, e r, e b.0, ap (λ (z : Request). z.stamp) b.2)), falling_map f rs e a.1)
-
-promised_same : (h h' : History) (ys : List Yea) → ended h' ≡ ended h → promised_in h' ys ≡ promised_in h ys
-promised_same h h' [] e = refl
-promised_same h h' (y ∷ ys) e = ap₂ (λ l n. cond (list_any (attempt_eq y.who) l) 0 (length y.appends) + n) e (promised_same h h' ys e)
 
 -- counting those that wait
 length_insert : (before : Asked → Asked → Bool) (a : Asked) (bs : List Asked) → length (insert before a bs) ≡ length bs + 1
@@ -212,7 +209,6 @@ module _ (loaded : Rows) (h1 h2 : History) (known : Known loaded h1) (sound : So
       let s : State = state_of old in
       let s' : State = state_of new in
       let rs : (k : Key) → (s'.locks k).requests ≡ map (granted_by ws k) (s.locks k).requests = λ k. ap (λ (l : Locks). l.requests) (c.locks k) ∙ granted_requests ws k (s.locks k) in
-      let parts : (x : Attempt) → s'.holding x ≡ s.holding x = λ x. ap (λ p. holding_at p x) c.parts in
       let there : (k : Key) (x : Request) → IsIn x (s.locks k).requests → IsIn (granted_by ws k x) (s'.locks k).requests = λ k x i. subst (λ l. IsIn (granted_by ws k x) l) (sym (rs k)) (in_map (granted_by ws k) x (s.locks k).requests i) in
       record {
         owned = λ g i u. ⊎_elim
@@ -224,17 +220,13 @@ module _ (loaded : Rows) (h1 h2 : History) (known : Known loaded h1) (sound : So
         falling = λ k. subst (λ l. Falling l) (sym (rs k)) (falling_map (granted_by ws k) (s.locks k).requests (by_stamp ws k) (t.falling k));
         accessed = λ k. top_stays h1 h2 k any_mode (s.locks k).accessed (s'.locks k).accessed (ap (λ (l : Locks). l.accessed) (c.locks k) ∙ (granted_accessed ws k (s.locks k)).0) w.decided_same old_grant no_late (t.accessed k);
         written = λ k. top_stays h1 h2 k writes (s.locks k).written (s'.locks k).written (ap (λ (l : Locks). l.written) (c.locks k) ∙ (granted_accessed ws k (s.locks k)).1) w.decided_same old_grant no_late (t.written k);
-        noted = λ g i u. ⊎_elim
-            (λ n. subst (λ (z : Grant). IsIn z.key (s'.holding z.who).keys) (sym n.2) (subst (λ (l : Holding). IsIn n.0.key l.keys) (sym (parts n.0.who)) (t.noted_waiter n.0 (front_in h1 n.0 n.1))))
-            (λ j. subst (λ (l : Holding). IsIn g.key l.keys) (sym (parts g.who)) (t.noted g j (unended g.who u)))
-            (cases g i);
-        noted_waiter = λ a i. subst (λ (l : Holding). IsIn a.key l.keys) (sym (parts a.who)) (t.noted_waiter a (still_waits a i).0);
-        rising = λ x. subst (λ (l : Holding). Rising l.keys) (sym (parts x)) (t.rising x);
-        rows = λ x u. let o = t.rows x (unended x u) in (ap (λ (l : Holding). l.writes) (parts x) ∙ o.0 ∙ ap (λ ys. writes_in ys x) (sym w.yeas_same), ap (λ (l : Holding). l.appends) (parts x) ∙ o.1 ∙ ap (λ ys. appends_in ys x) (sym w.yeas_same));
-        tables = t.tables;
-        versions = λ k. ap (λ x. option_map version_of (version_at x k)) c.store ∙ t.versions k ∙ sym (w.last_same k);
-        promised = c.promised ∙ t.promised ∙ sym (promised_same h1 h2 (yeas h1) w.ended_same) ∙ ap (promised_in h2) (sym w.yeas_same);
-        room = let e = ap (λ x. x.spare) c.store in omega (arith, t.room, c.promised, e);
+        kept = subst (λ p. KeepsRows false loaded p h2) (sym c.shelf) (keeps_resumed t.kept (record {
+          grants_from = λ g i. ⊎_elim (λ n. inr (n.0, front_in h1 n.0 n.1, sym (ap (λ (z : Grant). z.who) n.2), sym (ap (λ (z : Grant). z.key) n.2))) (λ j. inl j) (cases g i);
+          waits_from = λ a i. (still_waits a i).0;
+          ended_same = w.ended_same;
+          yeas_same = w.yeas_same;
+          last_same = w.last_same;
+        }));
         waiting =
             let some = split_count (λ a. none (filter (λ b. key_eq b.key a.key && (leb a.stamp b.stamp && not (is_free h1 b))) (waits h1))) (λ a. not (is_woken (wakes loaded h1) a)) (waits h1) (λ a i. ap not (same_test a i)) in
             let fewer = ap (λ (l : List Asked). length l) w.waits_less in
