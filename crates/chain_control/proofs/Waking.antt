@@ -1,14 +1,13 @@
 -- The table tracks the history whose last call woke waiters.
-use Rattle.std.proofs.Common.{◌≡◌, ◌≢◌, ◌⊎◌, ℕ, ◌+◌, List, [], ◌∷◌, ◌++◌, map, filter, Bool, true, false, not, cond, length, refl, sym, ap, ap₂, ◌∙◌, subst, inl, inr, ⊎_elim, arith, Option, Some, None, option_map, true≢false}
-use Rattle.std.specs.List.{list_any}
+use Rattle.std.proofs.Common.{◌≡◌, ◌≢◌, ◌⊎◌, ℕ, ◌+◌, List, [], ◌∷◌, ◌++◌, map, filter, Bool, true, false, not, cond, length, refl, sym, ap, ◌∙◌, subst, inl, inr, ⊎_elim, arith, Option, Some, None, true≢false}
 use Rattle.deneva_base.specs.declared.keys.Key.{Key}
 use Rattle.deneva_base.specs.declared.numbers.Attempt.{Attempt}
 use Rattle.deneva_base.specs.declared.numbers.Number.{Number}
 use Rattle.deneva_base.specs.Lists.{IsIn, insert, sort}
 use Rattle.deneva_base.specs.Rows.{Rows}
 use Rattle.deneva_base.specs.Keys.{attempt_eq}
-use Rattle.protocol_rules.specs.History.{History, Asked, Grant, Yea, grant_of, grant_of_wake, grants, waits, yeas, ended, is_woken, IsUnended}
-use Rattle.protocol_rules.specs.Latest.{Version, writes_in}
+use Rattle.protocol_rules.specs.History.{History, Asked, Grant, grant_of, grant_of_wake, grants, waits, yeas, ended, is_woken, IsUnended}
+use Rattle.protocol_rules.specs.Latest.{Version}
 use Rattle.protocol_rules.specs.Order.{by_rising_stamp}
 use Rattle.protocol_rules.specs.Versions.{below}
 use Rattle.protocol_rules.specs.Waiting.{wake_of}
@@ -17,14 +16,14 @@ use Rattle.protocol_rules.proofs.Known.{Known}
 use Rattle.protocol_rules.proofs.Sorts.{sort_in, in_sort}
 use Rattle.protocol_rules.proofs.Woken.{woken_in, in_woken, wake_grants, grant_wakes}
 use Rattle.control_core.specs.Leaving.{last}
-use Rattle.control_core.proofs.Lasts.{appends_in}
 use Rattle.chain_control.specs.declared.requests.Request.{Request}
 use Rattle.chain_control.specs.declared.requests.Waiter.{Waiter}
 use Rattle.chain_control.specs.Requests.{grants_to}
-use Rattle.chain_control.specs.Tables.{same_key}
-use Rattle.chain_control.specs.Holdings.{Holding}
-use Rattle.chain_control.specs.Standing.{State, requests_in, owner_of, waiter_of, IsOwner, IsWaiter, StampsRise, Rising, Tracks, version_of, promised_in}
-use Rattle.chain_control.proofs.Places.{same_tells}
+use Rattle.key_table.specs.Keys.{same_key}
+use Rattle.shelf.specs.Keeps.{KeepsRows}
+use Rattle.shelf.proofs.Keeps.{keeps_resumed}
+use Rattle.chain_control.specs.Standing.{State, requests_in, owner_of, waiter_of, IsOwner, IsWaiter, StampsRise, Tracks}
+use Rattle.key_table.proofs.Places.{same_tells}
 use Rattle.chain_control.proofs.Puts.{rise_map}
 use Rattle.chain_control.proofs.Tabling.{granted_by}
 
@@ -80,10 +79,6 @@ by_stamp (x ∷ ws) key r = go (same_key x.key key) (λ q. by_stamp ws key q)
     go : (b : Bool) → ((q : Request) → (granted_by ws key q).stamp ≡ q.stamp) → (granted_by ws key (cond b (grants_to x.who r) r)).stamp ≡ r.stamp
     go true rest = rest (grants_to x.who r)
     go false rest = rest r
-
-promised_same : (h h' : History) (ys : List Yea) → ended h' ≡ ended h → promised_in h' ys ≡ promised_in h ys
-promised_same h h' [] e = refl
-promised_same h h' (y ∷ ys) e = ap₂ (λ l n. cond (list_any (attempt_eq y.who) l) 0 (length y.appends) + n) e (promised_same h h' ys e)
 
 -- counting those that wait
 length_insert : (before : Asked → Asked → Bool) (a : Asked) (bs : List Asked) → length (insert before a bs) ≡ length bs + 1
@@ -177,9 +172,9 @@ module _ (loaded : Rows) (h1 h2 : History) (known : Known loaded h1) (p : Asked 
 
   pub wake_tracks : (s s' : State) → Tracks loaded s h1
       → ((k : Key) → requests_in (s'.chains k) ≡ map (granted_by ws k) (requests_in (s.chains k)))
-      → ((x : Attempt) → s'.holding x ≡ s.holding x) → ((k : Key) → s'.versions k ≡ s.versions k) → s'.spare ≡ s.spare → s'.promised ≡ s.promised → s'.waiting + length ws ≡ s.waiting
+      → s'.shelf ≡ s.shelf → s'.waiting + length ws ≡ s.waiting
       → Tracks loaded s' h2
-  wake_tracks s s' t rs parts versions spare promised waiting =
+  wake_tracks s s' t rs shelf waiting =
       let there : (k : Key) (x : Request) → IsIn x (requests_in (s.chains k)) → IsIn (granted_by ws k x) (requests_in (s'.chains k)) = λ k x i. subst (λ l. IsIn (granted_by ws k x) l) (sym (rs k)) (in_map (granted_by ws k) x (requests_in (s.chains k)) i) in
       record {
         owned = λ g i u. ⊎_elim
@@ -189,19 +184,13 @@ module _ (loaded : Rows) (h1 h2 : History) (known : Known loaded h1) (p : Asked 
         queued = λ a i. let j = still_waits a i in subst (λ r. IsIn r (requests_in (s'.chains a.key))) (miss a j.0 j.1 ∙ sym (waiter_same a)) (there a.key (waiter_of loaded h1 a) (t.queued a j.0));
         real = λ k y i. real k y (in_map_from (granted_by ws k) y (requests_in (s.chains k)) (subst (λ l. IsIn y l) (rs k) i));
         stamps_rise = λ k. subst (λ l. StampsRise l) (sym (rs k)) (rise_map (granted_by ws k) (requests_in (s.chains k)) (by_stamp ws k) (t.stamps_rise k));
-        noted = λ g i u. ⊎_elim
-            (λ n. subst (λ (z : Grant). IsIn z.key (s'.holding z.who).keys) (sym n.2) (subst (λ (l : Holding). IsIn n.0.key l.keys) (sym (parts n.0.who)) (t.noted_waiter n.0 (less n.0 n.1).0)))
-            (λ j. subst (λ (l : Holding). IsIn g.key l.keys) (sym (parts g.who)) (t.noted g j (unended g.who u)))
-            (cases g i);
-        noted_waiter = λ a i. subst (λ (l : Holding). IsIn a.key l.keys) (sym (parts a.who)) (t.noted_waiter a (still_waits a i).0);
-        rising = λ x. subst (λ (l : Holding). Rising l.keys) (sym (parts x)) (t.rising x);
-        rows = λ x u.
-            let o = t.rows x (unended x u) in
-            (ap (λ (l : Holding). l.writes) (parts x) ∙ o.0 ∙ ap (λ ys. writes_in ys x) (sym w.yeas_same), ap (λ (l : Holding). l.versions) (parts x) ∙ o.1 ∙ ap (λ ys. writes_in ys x) (sym w.yeas_same), ap (λ (l : Holding). l.appends) (parts x) ∙ o.2 ∙ ap (λ ys. appends_in ys x) (sym w.yeas_same));
-        tables = t.tables;
-        versions = λ k. ap (option_map version_of) (versions k) ∙ t.versions k ∙ sym (w.last_same k);
-        promised = promised ∙ t.promised ∙ sym (promised_same h1 h2 (yeas h1) w.ended_same) ∙ ap (promised_in h2) (sym w.yeas_same);
-        room = omega (arith, t.room, promised, spare);
+        kept = subst (λ x. KeepsRows true loaded x h2) (sym shelf) (keeps_resumed t.kept (record {
+          grants_from = λ g i. ⊎_elim (λ n. inr (n.0, (less n.0 n.1).0, sym (ap (λ (z : Grant). z.who) n.2), sym (ap (λ (z : Grant). z.key) n.2))) (λ j. inl j) (cases g i);
+          waits_from = λ a i. (still_waits a i).0;
+          ended_same = w.ended_same;
+          yeas_same = w.yeas_same;
+          last_same = w.last_same;
+        }));
         waiting =
             let some = split_count p (λ a. not (is_woken (map (wake_of loaded h1) woken) a)) (waits h1) (λ a i. ap not (same_test a i)) in
             let fewer = ap (λ (l : List Asked). length l) w.waits_less in
