@@ -1,19 +1,18 @@
 -- A table under WAIT_DIE.
-use Rattle.std.proofs.Common.{◌≡◌, ℕ, ◌≤◌, ◌<◌, ◌^◌, ltb, leb, List, [], ◌∷◌, ◌++◌, map, filter, Bool, true, false, not, ◌&&◌, ◌||◌, cond, length, refl, sym, ap, ap₂, ◌∙◌, subst, inl, inr, ⊎_elim, arith, Option, Some, None, option_map, true≢false}
+use Rattle.std.proofs.Common.{◌≡◌, ℕ, ◌≤◌, ◌<◌, ◌^◌, ltb, leb, List, [], ◌∷◌, map, filter, Bool, true, false, not, ◌&&◌, ◌||◌, cond, length, refl, sym, ap, ap₂, ◌∙◌, subst, inl, inr, ⊎_elim, arith, Option, Some, None, option_map, true≢false}
 use Rattle.std.proofs.lemmas.Bool.Decides.{nat_tests}
 use Rattle.deneva_base.specs.declared.keys.Key.{Key}
 use Rattle.deneva_base.specs.declared.keys.Mode.{Mode}
 use Rattle.deneva_base.specs.declared.numbers.Attempt.{Attempt}
 use Rattle.deneva_base.specs.declared.numbers.Number.{Number}
 use Rattle.deneva_base.specs.declared.causes.Cause.TheVariants.{Younger}
-use Rattle.deneva_base.specs.declared.answers.Answer.{Answer}
 use Rattle.deneva_base.specs.declared.answers.Answer.TheVariants.{Granted, Waits, Refused}
 use Rattle.deneva_base.specs.declared.answers.Wake.{Wake}
 use Rattle.deneva_base.specs.Lists.{IsIn}
 use Rattle.deneva_base.specs.Rows.{Row, Rows}
 use Rattle.deneva_base.specs.Keys.{key_eq, number_lt}
 use Rattle.protocol_rules.specs.Conditions.{MayAsk, MayCommit, MayAbort}
-use Rattle.protocol_rules.specs.History.{Ask, Prepare, Commit, Abort, History, Asked, Grant, grants, waits, yeas, ended, left_waiting, is_woken, IsUnended, Conflict}
+use Rattle.protocol_rules.specs.History.{Commit, Abort, History, Asked, Grant, grants, waits, yeas, ended, is_woken, IsUnended, Conflict}
 use Rattle.protocol_rules.specs.Latest.{Version, latest, newer, row_for, seen, writes_in}
 use Rattle.protocol_rules.specs.Locks.{conflicts, blockers}
 use Rattle.protocol_rules.specs.Order.{by_falling_stamp}
@@ -42,7 +41,9 @@ use Rattle.lock_control.proofs.Answering.{barred_none, barred_some}
 use Rattle.shelf.proofs.Versions.{read_is, version_is}
 use Rattle.shelf.proofs.Closing.{waits_same}
 use Rattle.lock_control.proofs.Calls.{sounds, knows, traces, grant_is, commit_tracks, abort_tracks}
-use Rattle.lock_control.proofs.Waking.{to_waiter, wake_tracks, length_map, length_sort}
+use Rattle.lock_control.proofs.Waking.{to_waiter, wake_tracks}
+use Rattle.shelf.proofs.Counting.{length_filter, length_sort, waits_short}
+use Rattle.std.proofs.lemmas.List.{length-map}
 use Rattle.lock_control.proofs.Fronts.{all_front, front_is}
 
 none_nil : {A : Type 0} (xs : List A) → ((x : A) → IsIn x xs → ⊥) → none xs ≡ true
@@ -56,14 +57,6 @@ none_some (y ∷ ys) x i = refl
 and_false : (a : Bool) → (a && false) ≡ false
 and_false true = refl
 and_false false = refl
-
-length_filter : (p : Asked → Bool) (xs : List Asked) → length (filter p xs) ≤ length xs
-length_filter p [] = omega arith
-length_filter p (x ∷ xs) = go (p x) (length_filter p xs)
-  where
-    go : (b : Bool) → length (filter p xs) ≤ length xs → length (cond b (x ∷ filter p xs) (filter p xs)) ≤ length (x ∷ xs)
-    go true e = omega (arith, e)
-    go false e = omega (arith, e)
 
 map_same : (f g : Asked → Wake) (h : Waiter → Wake) (xs : List Asked) → ((a : Asked) → IsIn a xs → h (to_waiter a) ≡ g a) → map h (map to_waiter xs) ≡ map g xs
 map_same f g h [] e = refl
@@ -152,18 +145,6 @@ module _ (t : Table) (loaded : Rows) (h : History) (stands : Stands wait_die t l
     free_is e s = grant_is wait_die wait_die_wakes t loaded h stands who stamp key mode may ∙ no_elder e true (stopped_is ∙ ap not s)
 
   -- there is room to count one more
-  waits_short : (k : History) → length (waits k) ≤ length k
-  waits_short [] = omega arith
-  waits_short (Ask who stamp key mode answer ∷ k) = go answer (waits_short k)
-    where
-      go : (a : Answer) → length (waits k) ≤ length k → length (left_waiting (record { who = who; stamp = stamp; key = key; mode = mode }) a ++ waits k) ≤ length (Ask who stamp key mode answer ∷ k)
-      go (Granted row version bound) e = omega (arith, e)
-      go Waits e = omega (arith, e)
-      go (Refused cause) e = omega (arith, e)
-  waits_short (Prepare who bound ws as' vote ∷ k) = let e = waits_short k in omega (arith, e)
-  waits_short (Commit who number woken ∷ k) = let e = waits_short k in let f = length_filter (λ a. not (is_woken woken a)) (waits k) in omega (arith, e, f)
-  waits_short (Abort who woken ∷ k) = let e = waits_short k in let f = length_filter (λ a. not (is_woken woken a)) (waits k) in omega (arith, e, f)
-
   pub few_wait : (who : Attempt) (stamp : ℕ) (key : Key) → MayAsk loaded h who stamp key → t.waiting < 2 ^ 63
   few_wait who stamp key may = let e = stands.tracks.waiting in let s = waits_short h in let m = may.short in omega (arith, e, s, m)
 
@@ -186,7 +167,7 @@ module _ (t : Table) (loaded : Rows) (h : History) (stands : Stands wait_die t l
     pub few_woken : length (front_over who t.lines (held t.shelf who).keys) ≤ t.waiting
     few_woken =
         let e = ap (λ (l : List Waiter). length l) front_table in
-        let m = length_map to_waiter (sort by_falling_stamp (front h1)) in
+        let m = length-map (sort by_falling_stamp (front h1)) to_waiter in
         let s = length_sort by_falling_stamp (front h1) in
         let f = length_filter (λ a. none (filter (λ b. key_eq b.key a.key && (leb a.stamp b.stamp && not (is_free h1 b))) (waits h1))) (waits h1) in
         let w = ap (λ (l : List Asked). length l) same_waits in
@@ -239,8 +220,8 @@ module _ (t : Table) (loaded : Rows) (h : History) (stands : Stands wait_die t l
     pub commit_stands : (new : Table) → EndsAndWakes who (Some number) (front_over who t.lines (held t.shelf who).keys) t new → Tracks loaded (state_of new) (Commit who number ((wait_die loaded).commit h who number) ∷ h)
     commit_stands new c =
         let h1 : History = Commit who number [] ∷ h in
-        wake_tracks loaded h1 (Commit who number (wakes loaded h1) ∷ h) commit_known (sound_more loaded h (Commit who number []) may so)
-        (record { grants_more = refl; waits_less = ap (filter (λ a. not (is_woken (wakes loaded h1) a))) (sym (waits_same (waits h))); ended_same = refl; yeas_same = refl; decided_same = refl; last_same = λ k. refl })
+        wake_tracks loaded h1 (Commit who number (wakes loaded h1) ∷ h) commit_known (sound_more loaded h (Commit who number []) may so) refl
+        (record { grants_more = refl; waits_less = ap (filter (λ a. not (is_woken (wakes loaded h1) a))) (sym (waits_same (waits h))); ended_same = refl; yeas_same = refl; last_same = λ k. refl })
         c.between new (commit_tracks wait_die wait_die_wakes t loaded h stands who number c.between may c.ends)
         (subst (λ f. Wakes f c.between new) (front_table who (Some number) h1 may.unended commit_known (waits_same (waits h)) refl refl (λ k. refl)) c.wakes)
 
@@ -257,7 +238,7 @@ module _ (t : Table) (loaded : Rows) (h : History) (stands : Stands wait_die t l
     pub abort_stands : (new : Table) → EndsAndWakes who None (front_over who t.lines (held t.shelf who).keys) t new → Tracks loaded (state_of new) (Abort who ((wait_die loaded).abort h who) ∷ h)
     abort_stands new c =
         let h1 : History = Abort who [] ∷ h in
-        wake_tracks loaded h1 (Abort who (wakes loaded h1) ∷ h) abort_known (sound_more loaded h (Abort who []) may so)
-        (record { grants_more = refl; waits_less = ap (filter (λ a. not (is_woken (wakes loaded h1) a))) (sym (waits_same (waits h))); ended_same = refl; yeas_same = refl; decided_same = refl; last_same = λ k. refl })
+        wake_tracks loaded h1 (Abort who (wakes loaded h1) ∷ h) abort_known (sound_more loaded h (Abort who []) may so) refl
+        (record { grants_more = refl; waits_less = ap (filter (λ a. not (is_woken (wakes loaded h1) a))) (sym (waits_same (waits h))); ended_same = refl; yeas_same = refl; last_same = λ k. refl })
         c.between new (abort_tracks wait_die wait_die_wakes t loaded h stands who c.between may c.ends)
         (subst (λ f. Wakes f c.between new) (front_table who None h1 may.unended abort_known (waits_same (waits h)) refl refl (λ k. refl)) c.wakes)

@@ -4,3 +4,5 @@ pub mod Promised
 pub mod Closing
 pub mod Keeps
 pub mod Versions
+pub mod Counting
+pub mod Resuming
