@@ -1,5 +1,5 @@
 -- What the table answers is what the rule says.
-use Rattle.std.proofs.Common.{◌≡◌, ◌⊎◌, ℕ, max, leb, eqb, ltb, ◌≤◌, length, List, [], ◌∷◌, ◌++◌, filter, Bool, true, false, not, ◌&&◌, cond, refl, sym, ap, ap₂, ◌∙◌, subst, inl, inr, ⊎_elim, arith, Option, Some, None, option_map, true≢false, map}
+use Rattle.std.proofs.Common.{◌≡◌, ◌⊎◌, ℕ, max, leb, eqb, ltb, ◌≤◌, List, [], ◌∷◌, Bool, true, false, ◌&&◌, cond, refl, sym, ap, ap₂, ◌∙◌, subst, inl, inr, ⊎_elim, arith, Option, Some, None, option_map, true≢false, map}
 use Rattle.std.proofs.lemmas.Bool.{le-leb, ltb-false}
 use Rattle.std.specs.List.{list_any}
 use Rattle.deneva_base.specs.declared.keys.Key.{Key}
@@ -17,7 +17,7 @@ use Rattle.deneva_base.specs.Rows.{Row, Rows, row_or_empty}
 use Rattle.deneva_base.specs.Keys.{key_eq, loaded_version}
 use Rattle.deneva_base.specs.Modes.{reads, writes}
 use Rattle.protocol_rules.specs.Conditions.{MayAsk, MayPrepare}
-use Rattle.protocol_rules.specs.History.{Ask, Prepare, Commit, Abort, History, Asked, asks, grants, waits, left_waiting, is_woken, IsUnended, stamp_of}
+use Rattle.protocol_rules.specs.History.{History, Asked, asks, grants, IsUnended, stamp_of}
 use Rattle.protocol_rules.specs.Latest.{Version, latest, seen}
 use Rattle.protocol_rules.specs.Rules.{Obeys}
 use Rattle.protocol_rules.specs.Versions.{start, below}
@@ -240,27 +240,6 @@ module _ (keep : ℕ) (loaded : Rows) (h : History) (obeys : Obeys loaded (mvcc 
       go None x e = absurd (cc e)
       go (Some v) None e = (record { requests = []; links = record { number = v.number; row = v.row; read = 0 } ∷ []; floor = 0 }, refl)
       go (Some v) (Some c) e = (c, refl)
-
--- there is room to count one more
-pub length_filter : {A : Type 0} (p : A → Bool) (xs : List A) → length (filter p xs) ≤ length xs
-length_filter p [] = omega arith
-length_filter p (x ∷ xs) = go (p x) (length_filter p xs)
-  where
-    go : (b : Bool) → length (filter p xs) ≤ length xs → length (cond b (x ∷ filter p xs) (filter p xs)) ≤ length (x ∷ xs)
-    go true e = omega (arith, e)
-    go false e = omega (arith, e)
-
-pub waits_short : (k : History) → length (waits k) ≤ length k
-waits_short [] = omega arith
-waits_short (Ask who stamp key mode answer ∷ k) = go answer (waits_short k)
-  where
-    go : (a : Answer) → length (waits k) ≤ length k → length (left_waiting (record { who = who; stamp = stamp; key = key; mode = mode }) a ++ waits k) ≤ length (Ask who stamp key mode answer ∷ k)
-    go (Granted row version bound) e = omega (arith, e)
-    go Waits e = omega (arith, e)
-    go (Refused cause) e = omega (arith, e)
-waits_short (Prepare who bound ws as' vote ∷ k) = let e = waits_short k in omega (arith, e)
-waits_short (Commit who number woken ∷ k) = let e = waits_short k in let f = length_filter (λ a. not (is_woken woken a)) (waits k) in omega (arith, e, f)
-waits_short (Abort who woken ∷ k) = let e = waits_short k in let f = length_filter (λ a. not (is_woken woken a)) (waits k) in omega (arith, e, f)
 
 -- a table on which nothing was called
 module _ (store : Seen) (t : Table) (f : IsNew store t) (l : IsLoadedStore store) where

@@ -28,7 +28,8 @@ use Rattle.chain_control.proofs.Asking.{grants_more, waits_more, ask_granted, as
 use Rattle.chain_control.proofs.Preparing.{opened_tracks, opened_keeps, stays_tracks, stays_keeps, noted_tracks, noted_keeps, reserved_tracks, reserved_keeps, prepared_tracks, prepared_keeps}
 use Rattle.chain_control.proofs.Keeping.{granted_keeps, waiting_keeps, refused_keeps}
 use Rattle.chain_control.proofs.Bests.{passes_floor}
-use Rattle.chain_control.proofs.Answering.{refused_is, under_floor, found, waits_is, grants_is, vote_is, opens_some, waits_short}
+use Rattle.chain_control.proofs.Answering.{refused_is, under_floor, found, waits_is, grants_is, vote_is, opens_some}
+use Rattle.shelf.proofs.Counting.{waits_short}
 use Rattle.chain_control.proofs.Calls.{knows, sounds, traces}
 
 module _ (keep : ℕ) (t : Table) (loaded : Rows) (h : History) (stands : Stands keep t loaded h) where

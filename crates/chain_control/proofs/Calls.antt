@@ -46,8 +46,9 @@ use Rattle.chain_control.specs.Kept.{kept}
 use Rattle.chain_control.specs.Standing.{requests_in, links_in, link_of, waiter_of, Stands}
 use Rattle.chain_control.proofs.Bests.{waiter_keeps, best_is}
 use Rattle.chain_control.proofs.Keeping.{opened_some}
-use Rattle.chain_control.proofs.Answering.{length_filter}
-use Rattle.chain_control.proofs.Waking.{to_waiter, length_map, length_sort}
+use Rattle.std.proofs.lemmas.List.{length-map}
+use Rattle.shelf.proofs.Counting.{length_filter, length_sort}
+use Rattle.chain_control.proofs.Waking.{to_waiter}
 use Rattle.chain_control.proofs.Closing.{Step, front_table, end_tracks, end_keeps}
 
 -- the version below a stamp with a row that comes under a number
@@ -117,7 +118,7 @@ module _ (keep : ℕ) (t : Table) (loaded : Rows) (h : History) (stands : Stands
   kept_are key row e =
       go (version_at t.shelf.store key) (chain_at t.lines key) (version_is (mvcc keep loaded) stands.tracks.kept stands.obeys key row e)
       ∙ ap (λ (l : List Link). length l) (stands.keeps.links key row e)
-      ∙ length_map (link_of h key) (kept keep loaded h key)
+      ∙ length-map (kept keep loaded h key) (link_of h key)
     where
       go : (v : Option StoredVersion) (c : Option Chain) → option_map version_of v ≡ Some (latest loaded h key) → kept_in c ≡ length (links_in (opened_with v c))
       go None c e = absurd (cc e)
@@ -139,7 +140,7 @@ module _ (keep : ℕ) (t : Table) (loaded : Rows) (h : History) (stands : Stands
     pub few : length (goers_over who number (held t.shelf who).writes t.lines (held t.shelf who).keys) ≤ t.waiting
     few =
         let e = ap (λ (l : List Waiter). length l) front_is in
-        let m = length_map (to_waiter loaded h1) woken in
+        let m = length-map woken (to_waiter loaded h1) in
         let s = length_sort by_rising_stamp (filter (goes (writer_between loaded h1) h h1 who) (waits h)) in
         let f = length_filter (goes (writer_between loaded h1) h h1 who) (waits h) in
         omega (arith, e, m, s, f, stands.tracks.waiting)
@@ -189,8 +190,8 @@ module _ (keep : ℕ) (t : Table) (loaded : Rows) (h : History) (stands : Stands
         ended_same = refl;
         yeas_same = refl;
         last_same = λ k. refl;
-        below_same = λ k stamp. refl;
       };
+      below_same = λ k stamp. refl;
       written_more = λ k. refl;
       waits_less = refl;
       grants_more = refl;
@@ -225,8 +226,8 @@ module _ (keep : ℕ) (t : Table) (loaded : Rows) (h : History) (stands : Stands
         ended_same = refl;
         yeas_same = refl;
         last_same = λ k. refl;
-        below_same = λ k stamp. refl;
       };
+      below_same = λ k stamp. refl;
       written_more = λ k. refl;
       waits_less = refl;
       grants_more = refl;

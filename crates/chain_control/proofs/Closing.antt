@@ -14,7 +14,7 @@ use Rattle.protocol_rules.specs.History.{History, Asked, grants, waits, yeas, gr
 use Rattle.protocol_rules.specs.Latest.{Version, latest, row_for, writes_in}
 use Rattle.protocol_rules.specs.Order.{by_rising_stamp}
 use Rattle.protocol_rules.specs.Rules.{Obeys}
-use Rattle.protocol_rules.specs.Versions.{written, start}
+use Rattle.protocol_rules.specs.Versions.{written, start, below}
 use Rattle.protocol_rules.specs.Waiting.{holders, holds, goes, wake_of}
 use Rattle.protocol_rules.specs.Mvcc.{nth_greatest, floor, writer_between, mvcc}
 use Rattle.deneva_base.proofs.Membership.{in_map_from, filter_in, any_tells, key_decides}
@@ -45,7 +45,8 @@ use Rattle.chain_control.proofs.Lists.{map_same, map_both, filter_map}
 use Rattle.chain_control.proofs.Keeping.{opened_some}
 use Rattle.chain_control.proofs.Tabling.{changed_nothing, changed_once, end_row, granted_by, reads_by, wakes_is, wakes_nothing, wakes_requests, trims_requests}
 use Rattle.chain_control.proofs.Ending.{Leaves, between, writer, ended_chain, ended_nothing, closed_tracks}
-use Rattle.chain_control.proofs.Waking.{to_waiter, Wakens, wake_tracks}
+use Rattle.chain_control.proofs.Waking.{to_waiter, wake_tracks}
+use Rattle.shelf.proofs.Resuming.{Wakens}
 use Rattle.chain_control.proofs.Fronts.{from_goes, front_all}
 use Rattle.chain_control.proofs.Marking.{reads_none, marks}
 use Rattle.chain_control.proofs.Trimming.{news, kept_is, links_is, floor_is, same_floor, same_kept, stays_is}
@@ -56,7 +57,8 @@ pub record Step (keep : ℕ) (loaded : Rows) (h h1 h2 : History) (who : Attempt)
   pub obeys : Obeys loaded (mvcc keep loaded) h2
   pub known1 : Known loaded h1
   pub law : (a : Asked) → IsIn a (waits h) → holds h who a.key ≡ false → list_any (writer_between loaded h1 a) (holders h1) ≡ true
-  pub wakens : Wakens loaded h1 h2 (sort by_rising_stamp (filter (goes (writer_between loaded h1) h h1 who) (waits h1)))
+  pub wakens : Wakens loaded h1 h2 (map (wake_of loaded h1) (sort by_rising_stamp (filter (goes (writer_between loaded h1) h h1 who) (waits h1))))
+  pub below_same : (k : Key) (stamp : ℕ) → ◌≡◌ {A = Version} (below loaded h2 k stamp) (below loaded h1 k stamp)
   pub written_more : (k : Key) → ◌≡◌ {A = List Version} (written h2 k) (news number (row_for k (writes_in (yeas h) who)) ++ written h k)
   pub waits_less : waits h2 ≡ filter (λ a. not (is_woken (map (wake_of loaded h1) (sort by_rising_stamp (filter (goes (writer_between loaded h1) h h1 who) (waits h)))) a)) (waits h)
   pub grants_more : grants h2 ≡ map (grant_of_wake h) (map (wake_of loaded h1) (sort by_rising_stamp (filter (goes (writer_between loaded h1) h h1 who) (waits h)))) ++ grants h
@@ -142,7 +144,7 @@ module _ (keep : ℕ) (loaded : Rows) (h h1 h2 : History) (who : Attempt) (numbe
 
     pub end_tracks : ((k : Key) → option_map version_of (version_at new.shelf.store k) ≡ last loaded h1 k) → Tracks loaded (state_of new) h2
     end_tracks versions =
-        wake_tracks loaded h1 h2 p.known1 (goes (writer_between loaded h1) h h1 who) p.wakens s1 s'
+        wake_tracks loaded h1 h2 p.known1 (goes (writer_between loaded h1) h h1 who) p.wakens p.below_same s1 s'
         (closed_tracks keep loaded h h1 who number sound apart p.leaves (goers_over who number (held old.shelf who).writes old.lines (held old.shelf who).keys) old new t e versions)
         (λ k. ap requests_in (e.lines k) ∙ trims_requests (held s.shelf who).keys k (changed same_key waiter_key wakes_at (goers_over who number (held old.shelf who).writes old.lines (held old.shelf who).keys) k (s1.chains k)) ∙ wakes_requests (goers_over who number (held old.shelf who).writes old.lines (held old.shelf who).keys) k (s1.chains k) ∙ ap (λ f. map (granted_by f k) (requests_in (s1.chains k))) front_before)
         refl

@@ -14,6 +14,7 @@ use Rattle.deneva_base.proofs.Membership.{in_map, in_map_from, any_at, attempt_d
 use Rattle.protocol_rules.proofs.Sound.{Sound, row_found, writes_found}
 use Rattle.row_store.specs.Stores.{version_at}
 use Rattle.control_core.specs.Leaving.{last}
+use Rattle.std.proofs.lemmas.List.{map-id}
 use Rattle.chain_control.specs.declared.requests.Request.{Request}
 use Rattle.chain_control.specs.declared.requests.Waiter.{Waiter}
 use Rattle.chain_control.specs.declared.table.Table.{Table}
@@ -52,10 +53,6 @@ raise_waiter : (new : Option Number) (who : Attempt) (r : Request) (v : Number) 
 raise_waiter None who r v = refl
 raise_waiter (Some n) who r v = refl
 
-map_id : (rs : List Request) → rs ≡ map (raise_to None) rs
-map_id [] = refl
-map_id (r ∷ rs) = ap (λ l. r ∷ l) (map_id rs)
-
 -- the attempt's requests are taken out of each key of the list, or there are none
 end_none : (who : Attempt) (ks : List Key) (k : Key) (c : Chain) → ((x : Request) → IsIn x c.requests → x.who ≢ who) → changed same_key key_of (ends_at who) ks k (Some c) ≡ Some c
 end_none who [] k c n = refl
@@ -78,9 +75,9 @@ over_left who number rs = filter_none who (map (overtaken number) (filter (λ r.
 
 row_left : (keep : ℕ) (who : Attempt) (number : Option Number) (row : Option (List Cell)) (c : Chain) → ((r : List Cell) → row ≡ Some r → has_request who c.requests ≡ true)
     → filter (λ r. not (attempt_eq r.who who)) (end_row keep who number row c).requests ≡ map (raise_to (new_of number row)) (filter (λ r. not (attempt_eq r.who who)) c.requests)
-row_left keep who None None c has = map_id (filter (λ r. not (attempt_eq r.who who)) c.requests)
-row_left keep who None (Some row) c has = map_id (filter (λ r. not (attempt_eq r.who who)) c.requests)
-row_left keep who (Some number) None c has = map_id (filter (λ r. not (attempt_eq r.who who)) c.requests)
+row_left keep who None None c has = sym (map-id (filter (λ r. not (attempt_eq r.who who)) c.requests))
+row_left keep who None (Some row) c has = sym (map-id (filter (λ r. not (attempt_eq r.who who)) c.requests))
+row_left keep who (Some number) None c has = sym (map-id (filter (λ r. not (attempt_eq r.who who)) c.requests))
 row_left keep who (Some number) (Some row) c has =
     ap (λ b. filter (λ r. not (attempt_eq r.who who)) (cond b (overwritten keep who number row c) c).requests) (has row refl)
     ∙ over_left who number c.requests

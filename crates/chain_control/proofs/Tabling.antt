@@ -10,6 +10,8 @@ use Rattle.deneva_base.specs.Lists.{IsIn}
 use Rattle.deneva_base.specs.Keys.{key_eq, key_lt, attempt_eq}
 use Rattle.protocol_rules.specs.Latest.{row_for}
 use Rattle.deneva_base.proofs.Membership.{key_tells}
+use Rattle.std.proofs.lemmas.List.{map-id}
+use Rattle.shelf.proofs.Counting.{map_two}
 use Rattle.chain_control.specs.declared.requests.Request.{Request}
 use Rattle.chain_control.specs.declared.requests.Waiter.{Waiter}
 use Rattle.chain_control.specs.declared.links.Link.{Link}
@@ -118,17 +120,9 @@ abbrev pub reads_by : List Waiter → Key → Link → Link
 reads_by [] key l = l
 reads_by (w ∷ ws) key l = reads_by ws key (cond (same_key w.key key) (read_by w.version w.stamp l) l)
 
-map_two : {A B C : Type 0} (f : B → C) (g : A → B) (xs : List A) → map f (map g xs) ≡ map (λ x. f (g x)) xs
-map_two f g [] = refl
-map_two f g (x ∷ xs) = ap (λ l. f (g x) ∷ l) (map_two f g xs)
-
-map_id : {A : Type 0} (xs : List A) → map (λ x. x) xs ≡ xs
-map_id [] = refl
-map_id (x ∷ xs) = ap (λ l. x ∷ l) (map_id xs)
-
 -- what is kept of a key once these are granted
 pub wakes_is : (ws : List Waiter) (key : Key) (c : Chain) → changed same_key waiter_key wakes_at ws key (Some c) ≡ Some (record { requests = map (granted_by ws key) c.requests; links = map (reads_by ws key) c.links; floor = c.floor })
-wakes_is [] key c = λ i. Some (record { requests = sym (map_id c.requests) i; links = sym (map_id c.links) i; floor = c.floor })
+wakes_is [] key c = λ i. Some (record { requests = sym (map-id c.requests) i; links = sym (map-id c.links) i; floor = c.floor })
 wakes_is (w ∷ ws) key c = go (same_key w.key key) (λ d. wakes_is ws key d)
   where
     go : (b : Bool) → ((d : Chain) → changed same_key waiter_key wakes_at ws key (Some d) ≡ Some (record { requests = map (granted_by ws key) d.requests; links = map (reads_by ws key) d.links; floor = d.floor })) → changed same_key waiter_key wakes_at ws key (cond b (Some (granted w.who w.version w.stamp c)) (Some c)) ≡ Some (record { requests = map (λ r. granted_by ws key (cond b (grants_to w.who r) r)) c.requests; links = map (λ l. reads_by ws key (cond b (read_by w.version w.stamp l) l)) c.links; floor = c.floor })
