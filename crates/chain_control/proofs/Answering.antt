@@ -1,7 +1,6 @@
 -- What the table answers is what the rule says.
-use Rattle.std.proofs.Common.{◌≡◌, ◌⊎◌, ℕ, max, leb, eqb, ltb, ◌≤◌, length, List, [], ◌∷◌, ◌++◌, filter, Bool, true, false, not, ◌&&◌, cond, refl, sym, ap, ap₂, ◌∙◌, subst, inl, inr, ⊎_elim, arith, Option, Some, None, option_map, true≢false, map}
+use Rattle.std.proofs.Common.{◌≡◌, ◌⊎◌, ℕ, max, leb, eqb, ltb, ◌≤◌, List, [], ◌∷◌, Bool, true, false, ◌&&◌, cond, refl, sym, ap, ap₂, ◌∙◌, subst, inl, inr, ⊎_elim, arith, Option, Some, None, option_map, true≢false, map}
 use Rattle.std.proofs.lemmas.Bool.{le-leb, ltb-false}
-use Rattle.std.specs.Prelude.{is_some}
 use Rattle.std.specs.List.{list_any}
 use Rattle.deneva_base.specs.declared.keys.Key.{Key}
 use Rattle.deneva_base.specs.declared.keys.Mode.{Mode}
@@ -18,14 +17,14 @@ use Rattle.deneva_base.specs.Rows.{Row, Rows, row_or_empty}
 use Rattle.deneva_base.specs.Keys.{key_eq, loaded_version}
 use Rattle.deneva_base.specs.Modes.{reads, writes}
 use Rattle.protocol_rules.specs.Conditions.{MayAsk, MayPrepare}
-use Rattle.protocol_rules.specs.History.{Ask, Prepare, Commit, Abort, History, Asked, asks, grants, waits, left_waiting, is_woken, yeas, IsUnended, stamp_of}
+use Rattle.protocol_rules.specs.History.{History, Asked, asks, grants, IsUnended, stamp_of}
 use Rattle.protocol_rules.specs.Latest.{Version, latest, seen}
 use Rattle.protocol_rules.specs.Rules.{Obeys}
 use Rattle.protocol_rules.specs.Versions.{start, below}
 use Rattle.protocol_rules.specs.Waiting.{this, as_asked, holders, granted_with}
 use Rattle.protocol_rules.specs.Mvcc.{as_great, floor, top_reader, writer_between, mvcc}
 use Rattle.deneva_base.proofs.Membership.{key_decides, attempt_tells, and_true, and_parts, any_at, any_found}
-use Rattle.protocol_rules.proofs.Sound.{Sound, writes_found}
+use Rattle.protocol_rules.proofs.Sound.{Sound}
 use Rattle.protocol_rules.proofs.Known.{Known}
 use Rattle.protocol_rules.proofs.Traced.{Traced}
 use Rattle.protocol_rules.proofs.Marks.{stamp_is}
@@ -35,17 +34,19 @@ use Rattle.protocol_rules.proofs.Timestamps.{top_by}
 use Rattle.row_store.specs.declared.versions.Version.{Version as StoredVersion}
 use Rattle.row_store.specs.Stores.{Seen, version_at, row_in}
 use Rattle.control_core.specs.Leaving.{IsLoadedStore}
-use Rattle.control_core.proofs.Lasts.{last_latest}
 use Rattle.chain_control.specs.declared.requests.Request.{Request}
 use Rattle.chain_control.specs.declared.table.Table.{Table}
 use Rattle.chain_control.specs.Requests.{stands_between, is_none, stops, is_stopped, stamp_among}
 use Rattle.chain_control.specs.Links.{link_below}
 use Rattle.chain_control.specs.Chains.{Chain, refusal, refused_by, low_in, low_of}
 use Rattle.chain_control.specs.Tables.{chain_at, stamp_in}
-use Rattle.chain_control.specs.Holdings.{Holding}
-use Rattle.chain_control.specs.Changes.{IsFresh, read_in, opened_with}
+use Rattle.shelf.specs.Shelves.{held}
+use Rattle.chain_control.specs.Changes.{IsNew, read_in, opened_with}
 use Rattle.chain_control.specs.Kept.{awaited, kept}
-use Rattle.chain_control.specs.Standing.{State, state_of, requests_in, links_in, floor_in, link_of, owner_of, IsOwner, IsWaiter, StampsRise, Rising, Tracks, Keeps, version_of}
+use Rattle.chain_control.specs.Standing.{State, state_of, requests_in, links_in, floor_in, link_of, owner_of, IsOwner, IsWaiter, StampsRise, Tracks, Keeps}
+use Rattle.shelf.specs.Keeps.{version_of}
+use Rattle.shelf.proofs.Keeps.{keeps_fresh}
+use Rattle.shelf.proofs.Versions.{version_is}
 use Rattle.chain_control.proofs.Bests.{or_left, floor_keeps, best_is, passes_floor}
 
 pub bool_both : (a b : Bool) → (a ≡ true → b ≡ true) → (b ≡ true → a ≡ true) → a ≡ b
@@ -69,8 +70,8 @@ between_is loaded h who stamp key mode b r e f =
 
 module _ (keep : ℕ) (loaded : Rows) (h : History) (obeys : Obeys loaded (mvcc keep loaded) h) (known : Known loaded h) (sound : Sound loaded h) (traced : Traced h) (s : State) (t : Tracks loaded s h) (kt : Keeps keep loaded s h) where
   module _ (who : Attempt) (stamp : ℕ) (key : Key) (mode : Mode) (may : MayAsk loaded h who stamp key) (c : Chain) (there : s.chains key ≡ Some c) where
-    opened : opened_with (s.versions key) (s.chains key) ≡ Some c
-    opened = ap (opened_with (s.versions key)) there ∙ some (s.versions key)
+    opened : opened_with (version_at s.shelf.store key) (s.chains key) ≡ Some c
+    opened = ap (opened_with (version_at s.shelf.store key)) there ∙ some (version_at s.shelf.store key)
       where
         some : (v : Option StoredVersion) → opened_with v (Some c) ≡ Some c
         some None = refl
@@ -208,13 +209,13 @@ module _ (keep : ℕ) (loaded : Rows) (h : History) (obeys : Obeys loaded (mvcc 
         (λ (w : IsWaiter loaded h k r). absurd (may.nowhere w.asked w.there (sym (ap (λ (z : Request). z.who) w.same) ∙ e)))
         (t.real k r i)
 
-    pub vote_is : greatest_by (λ k. stamp_in who (s.chains k)) (s.holding who).keys ≡ stamp_of (asks h) who
+    pub vote_is : greatest_by (λ k. stamp_in who (s.chains k)) (held s.shelf who).keys ≡ stamp_of (asks h) who
     vote_is =
-        let most = greatest_le (λ k. stamp_in who (s.chains k)) (stamp_of (asks h) who) (s.holding who).keys (λ k i. subst (λ n. n ≤ stamp_of (asks h) who) (sym (stamp_in_is who (s.chains k))) (at_most k)) in
+        let most = greatest_le (λ k. stamp_in who (s.chains k)) (stamp_of (asks h) who) (held s.shelf who).keys (λ k i. subst (λ n. n ≤ stamp_of (asks h) who) (sym (stamp_in_is who (s.chains k))) (at_most k)) in
         let g = may.something in
         let unended = subst (λ w. IsUnended h w) (sym g.2) may.unended in
-        let key = subst (λ w. IsIn g.0.key (s.holding w).keys) g.2 (t.noted g.0 g.1 unended) in
-        let least = top_by (λ k. stamp_in who (s.chains k)) g.0.key (s.holding who).keys key in
+        let key = subst (λ w. IsIn g.0.key (held s.shelf w).keys) g.2 (t.kept.noted g.0 g.1 unended) in
+        let least = top_by (λ k. stamp_in who (s.chains k)) g.0.key (held s.shelf who).keys key in
         let here : stamp_in who (s.chains g.0.key) ≡ stamp_of (asks h) who = stamp_in_is who (s.chains g.0.key) ∙ exactly g.0.key (owner_of g.0) (t.owned g.0 g.1 unended) g.2 in
         omega (arith, most, least, here)
       where
@@ -231,84 +232,31 @@ module _ (keep : ℕ) (loaded : Rows) (h : History) (obeys : Obeys loaded (mvcc 
         exactly : (k : Key) (r : Request) → IsIn r (requests_in (s.chains k)) → r.who ≡ who → stamp_among who (requests_in (s.chains k)) ≡ stamp_of (asks h) who
         exactly k r i e = among (requests_in (s.chains k)) r i e (λ x j. request_stamp k x j)
 
-  -- the version of a loaded key
-  pub version_is : (key : Key) (row : Row) → loaded key ≡ Some row → option_map version_of (s.versions key) ≡ Some (latest loaded h key)
-  version_is key row e = t.versions key ∙ last_latest loaded (mvcc keep loaded) h key row obeys e (t.tables key row e)
-
-  -- so what is kept of it is there once it is opened
-  pub opens_some : (key : Key) (row : Row) → loaded key ≡ Some row → (c : Chain) × (opened_with (s.versions key) (s.chains key) ≡ Some c)
-  opens_some key row e = go (s.versions key) (s.chains key) (version_is key row e)
+  -- what is kept of a loaded key is there once it is opened
+  pub opens_some : (key : Key) (row : Row) → loaded key ≡ Some row → (c : Chain) × (opened_with (version_at s.shelf.store key) (s.chains key) ≡ Some c)
+  opens_some key row e = go (version_at s.shelf.store key) (s.chains key) (version_is (mvcc keep loaded) t.kept obeys key row e)
     where
       go : (v : Option StoredVersion) (x : Option Chain) → option_map version_of v ≡ Some (latest loaded h key) → (c : Chain) × (opened_with v x ≡ Some c)
       go None x e = absurd (cc e)
       go (Some v) None e = (record { requests = []; links = record { number = v.number; row = v.row; read = 0 } ∷ []; floor = 0 }, refl)
       go (Some v) (Some c) e = (c, refl)
 
-  -- the key of a row that is to be committed is present
-  pub is_present : (who : Attempt) (w : Keyed) → IsUnended h who → IsIn w (s.holding who).writes → is_some (s.versions w.key) ≡ true
-  is_present who w u i =
-      let y = writes_found (yeas h) who w (subst (λ l. IsIn w l) (t.rows who u).0 i) in
-      let g = sound.holds y.0 w y.2 y.3 in
-      let a = traced.asked g.0 g.1 in
-      let row = known.here a.0 a.1 in
-      some (s.versions w.key) (version_is w.key row.0 (subst (λ k. loaded k ≡ Some row.0) (a.3 ∙ g.3) row.1))
-    where
-      some : (v : Option StoredVersion) → option_map version_of v ≡ Some (latest loaded h w.key) → is_some v ≡ true
-      some None e = absurd (cc e)
-      some (Some v) e = refl
-
--- there is room to count one more
-pub length_filter : {A : Type 0} (p : A → Bool) (xs : List A) → length (filter p xs) ≤ length xs
-length_filter p [] = omega arith
-length_filter p (x ∷ xs) = go (p x) (length_filter p xs)
-  where
-    go : (b : Bool) → length (filter p xs) ≤ length xs → length (cond b (x ∷ filter p xs) (filter p xs)) ≤ length (x ∷ xs)
-    go true e = omega (arith, e)
-    go false e = omega (arith, e)
-
-pub waits_short : (k : History) → length (waits k) ≤ length k
-waits_short [] = omega arith
-waits_short (Ask who stamp key mode answer ∷ k) = go answer (waits_short k)
-  where
-    go : (a : Answer) → length (waits k) ≤ length k → length (left_waiting (record { who = who; stamp = stamp; key = key; mode = mode }) a ++ waits k) ≤ length (Ask who stamp key mode answer ∷ k)
-    go (Granted row version bound) e = omega (arith, e)
-    go Waits e = omega (arith, e)
-    go (Refused cause) e = omega (arith, e)
-waits_short (Prepare who bound ws as' vote ∷ k) = let e = waits_short k in omega (arith, e)
-waits_short (Commit who number woken ∷ k) = let e = waits_short k in let f = length_filter (λ a. not (is_woken woken a)) (waits k) in omega (arith, e, f)
-waits_short (Abort who woken ∷ k) = let e = waits_short k in let f = length_filter (λ a. not (is_woken woken a)) (waits k) in omega (arith, e, f)
-
 -- a table on which nothing was called
-module _ (store : Seen) (t : Table) (f : IsFresh store t) (l : IsLoadedStore store) where
-  start_is : (k : Key) (v : Option StoredVersion) → version_at store k ≡ v → option_map version_of (version_at store k) ≡ option_map (λ row. record { number = loaded_version; row = row }) (option_map (λ (x : StoredVersion). x.row) (version_at store k))
-  start_is k None is = rw is refl
-  start_is k (Some v) is = rw is (ap (λ n. Some (record { number = n; row = v.row })) (l k v is).0)
-
+module _ (store : Seen) (t : Table) (f : IsNew store t) (l : IsLoadedStore store) where
   pub fresh_tracks : Tracks (row_in store) (state_of t) []
   fresh_tracks = record {
     owned = λ g i u. absurd i;
     queued = λ a i. absurd i;
     real = λ k x i. absurd (subst (λ z. IsIn x (requests_in z)) (f.lines k) i);
     stamps_rise = λ k. subst (λ z. StampsRise (requests_in z)) (sym (f.lines k)) tt;
-    noted = λ g i u. absurd i;
-    noted_waiter = λ a i. absurd i;
-    rising = λ w. subst (λ (z : Holding). Rising z.keys) (sym (f.parts w)) tt;
-    rows = λ w u. (ap (λ (z : Holding). z.writes) (f.parts w), ap (λ (z : Holding). z.versions) (f.parts w), ap (λ (z : Holding). z.appends) (f.parts w));
-    tables = λ k row e. tables k (version_at store k) refl row e;
-    versions = λ k. ap (λ x. option_map version_of (version_at x k)) f.store ∙ start_is k (version_at store k) refl;
-    promised = f.promised;
-    room = omega (arith, f.promised);
+    kept = keeps_fresh true f.shelf l;
     waiting = f.waiting;
   }
-    where
-      tables : (k : Key) (v : Option StoredVersion) → version_at store k ≡ v → (row : Row) → option_map (λ (x : StoredVersion). x.row) (version_at store k) ≡ Some row → k.table ≤ 4
-      tables k None is row e = absurd (cc (ap (option_map (λ (x : StoredVersion). x.row)) (sym is) ∙ e))
-      tables k (Some v) is row e = (l k v is).1
 
   pub fresh_keeps : (keep : ℕ) → Keeps keep (row_in store) (state_of t) []
   fresh_keeps keep = record {
-    links = λ k row e. ap (λ x. links_in (opened_with (version_at x k) (chain_at t.lines k))) f.store ∙ ap (λ c. links_in (opened_with (version_at store k) c)) (f.lines k) ∙ one k (version_at store k) refl row e;
-    floor = λ k row e. ap (λ x. floor_in (opened_with (version_at x k) (chain_at t.lines k))) f.store ∙ ap (λ c. floor_in (opened_with (version_at store k) c)) (f.lines k) ∙ none (version_at store k) ∙ sym (start_floor k);
+    links = λ k row e. ap (λ x. links_in (opened_with (version_at x k) (chain_at t.lines k))) f.shelf.store ∙ ap (λ c. links_in (opened_with (version_at store k) c)) (f.lines k) ∙ one k (version_at store k) refl row e;
+    floor = λ k row e. ap (λ x. floor_in (opened_with (version_at x k) (chain_at t.lines k))) f.shelf.store ∙ ap (λ c. floor_in (opened_with (version_at store k) c)) (f.lines k) ∙ none (version_at store k) ∙ sym (start_floor k);
   }
     where
       none : (v : Option StoredVersion) → floor_in (opened_with v None) ≡ 0

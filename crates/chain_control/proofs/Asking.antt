@@ -9,31 +9,26 @@ use Rattle.deneva_base.specs.declared.answers.Answer.TheVariants.{Granted, Waits
 use Rattle.deneva_base.specs.Lists.{IsIn}
 use Rattle.deneva_base.specs.Rows.{Row, Rows}
 use Rattle.protocol_rules.specs.Conditions.{MayAsk}
-use Rattle.deneva_base.specs.Keys.{attempt_eq}
 use Rattle.deneva_base.specs.Modes.{reads}
 use Rattle.protocol_rules.specs.History.{Ask, History, Asked, Grant, asks, IsUnended}
 use Rattle.protocol_rules.proofs.Known.{Known}
 use Rattle.protocol_rules.proofs.Traced.{Traced}
-use Rattle.deneva_base.proofs.Membership.{attempt_tells}
-use Rattle.row_store.specs.Stores.{version_at}
 use Rattle.chain_control.specs.declared.requests.Request.{Request}
 use Rattle.chain_control.specs.declared.table.Table.{Table}
 use Rattle.chain_control.specs.Requests.{put_request}
 use Rattle.chain_control.specs.Chains.{Chain, marked, with_request, with_grant}
-use Rattle.chain_control.specs.Tables.{same_key}
-use Rattle.chain_control.specs.Holdings.{Holding, with_key}
+use Rattle.key_table.specs.Keys.{same_key}
+use Rattle.shelf.specs.Shelves.{Notes}
+use Rattle.shelf.proofs.Keeps.{keeps_granted, keeps_waiting, keeps_refused}
 use Rattle.chain_control.specs.Changes.{Grants, Waiting}
-use Rattle.chain_control.specs.Standing.{State, state_of, requests_in, owner_of, waiter_of, IsOwner, IsWaiter, StampsRise, Rising, Tracks, version_of}
-use Rattle.chain_control.proofs.Places.{same_tells}
-use Rattle.chain_control.proofs.Puts.{put_in, in_put, rise_put, key_in_put, rising_put}
+use Rattle.chain_control.specs.Standing.{State, state_of, requests_in, owner_of, waiter_of, IsOwner, IsWaiter, StampsRise, Tracks}
+use Rattle.key_table.proofs.Places.{same_tells, same_self, at_place}
+use Rattle.chain_control.proofs.Puts.{put_in, in_put, rise_put}
 
 -- one more request
 pub record More (key : Key) (r : Request) (s s' : State) : Type 0 where
   pub requests : (k : Key) → requests_in (s'.chains k) ≡ cond (same_key key k) (put_request r (requests_in (s.chains key))) (requests_in (s.chains k))
-  pub holding : (w : Attempt) → s'.holding w ≡ cond (attempt_eq r.who w) (with_key key (s.holding r.who)) (s.holding w)
-  pub versions : (k : Key) → s'.versions k ≡ s.versions k
-  pub promised : s'.promised ≡ s.promised
-  pub spare : s'.spare ≡ s.spare
+  pub notes : Notes r.who r.stamp key s.shelf s'.shelf
 
 -- what it gives
 pub record Grew (key : Key) (r : Request) (s s' : State) : Type 0 where
@@ -41,57 +36,10 @@ pub record Grew (key : Key) (r : Request) (s s' : State) : Type 0 where
   pub new : IsIn r (requests_in (s'.chains key))
   pub only : (k : Key) (x : Request) → IsIn x (requests_in (s'.chains k)) → ((x ≡ r) × (key ≡ k)) ⊎ IsIn x (requests_in (s.chains k))
   pub rise : (k : Key) → StampsRise (requests_in (s.chains k)) → ((x : Request) → IsIn x (requests_in (s.chains key)) → x.stamp ≢ r.stamp) → StampsRise (requests_in (s'.chains k))
-  pub keys : (w : Attempt) (k : Key) → IsIn k (s.holding w).keys → IsIn k (s'.holding w).keys
-  pub mine : IsIn key (s'.holding r.who).keys
-  pub rising : (w : Attempt) → Rising (s.holding w).keys → Rising (s'.holding w).keys
-  pub writes : (w : Attempt) → (s'.holding w).writes ≡ (s.holding w).writes
-  pub copies : (w : Attempt) → (s'.holding w).versions ≡ (s.holding w).versions
-  pub appends : (w : Attempt) → (s'.holding w).appends ≡ (s.holding w).appends
-
-same_refl : (k : Key) → same_key k k ≡ true
-same_refl k = ⊎_elim (λ t. t.0) (λ f. absurd (f.1 refl)) (same_tells k k)
-
-attempt_refl : (w : Attempt) → attempt_eq w w ≡ true
-attempt_refl w = ⊎_elim (λ t. t.0) (λ f. absurd (f.1 refl)) (attempt_tells w w)
-
--- at the key and elsewhere
-pub at_key : {A : Type 0} (key k : Key) (l a b : A) → l ≡ cond (same_key key k) a b → ((key ≡ k) × (l ≡ a)) ⊎ ((key ≢ k) × (l ≡ b))
-at_key key k l a b e = ⊎_elim (λ t. inl (t.1, e ∙ ap (λ x. cond x a b) t.0)) (λ f. inr (f.1, e ∙ ap (λ x. cond x a b) f.0)) (same_tells key k)
-
-pub at_who : (who w : Attempt) (l a b : Holding) → l ≡ cond (attempt_eq who w) a b → ((who ≡ w) × (l ≡ a)) ⊎ (l ≡ b)
-at_who who w l a b e = ⊎_elim (λ t. inl (t.1, e ∙ ap (λ x. cond x a b) t.0)) (λ f. inr (e ∙ ap (λ x. cond x a b) f.0)) (attempt_tells who w)
-
--- the keys of one attempt with one more
-pub record Noted (who : Attempt) (key : Key) (s s' : State) : Type 0 where
-  pub keys : (w : Attempt) (k : Key) → IsIn k (s.holding w).keys → IsIn k (s'.holding w).keys
-  pub rising : (w : Attempt) → Rising (s.holding w).keys → Rising (s'.holding w).keys
-  pub writes : (w : Attempt) → (s'.holding w).writes ≡ (s.holding w).writes
-  pub copies : (w : Attempt) → (s'.holding w).versions ≡ (s.holding w).versions
-  pub appends : (w : Attempt) → (s'.holding w).appends ≡ (s.holding w).appends
-
-pub noted : (who : Attempt) (key : Key) (s s' : State) → ((w : Attempt) → s'.holding w ≡ cond (attempt_eq who w) (with_key key (s.holding who)) (s.holding w)) → Noted who key s s'
-noted who key s s' h = record {
-  keys = λ w k i. ⊎_elim
-      (λ t. subst (λ (p : Holding). IsIn k p.keys) (sym t.1) (key_in_put key k (s.holding who).keys (inr (subst (λ q. IsIn k (s.holding q).keys) (sym t.0) i))))
-      (λ e. subst (λ (p : Holding). IsIn k p.keys) (sym e) i)
-      (cases w);
-  rising = λ w f. ⊎_elim
-      (λ t. subst (λ (p : Holding). Rising p.keys) (sym t.1) (rising_put key (s.holding who).keys (subst (λ q. Rising (s.holding q).keys) (sym t.0) f)))
-      (λ e. subst (λ (p : Holding). Rising p.keys) (sym e) f)
-      (cases w);
-  writes = λ w. ⊎_elim (λ t. ap (λ (p : Holding). p.writes) t.1 ∙ ap (λ q. (s.holding q).writes) t.0) (λ e. ap (λ (p : Holding). p.writes) e) (cases w);
-  copies = λ w. ⊎_elim (λ t. ap (λ (p : Holding). p.versions) t.1 ∙ ap (λ q. (s.holding q).versions) t.0) (λ e. ap (λ (p : Holding). p.versions) e) (cases w);
-  appends = λ w. ⊎_elim (λ t. ap (λ (p : Holding). p.appends) t.1 ∙ ap (λ q. (s.holding q).appends) t.0) (λ e. ap (λ (p : Holding). p.appends) e) (cases w);
-}
-  where
-    cases : (w : Attempt) → ((who ≡ w) × (s'.holding w ≡ with_key key (s.holding who))) ⊎ (s'.holding w ≡ s.holding w)
-    cases w = at_who who w (s'.holding w) (with_key key (s.holding who)) (s.holding w) (h w)
 
 pub grew : (key : Key) (r : Request) (s s' : State) → More key r s s' → Grew key r s s'
 grew key r s s' c =
-    let p = noted r.who key s s' c.holding in
-    let mine : s'.holding r.who ≡ with_key key (s.holding r.who) = c.holding r.who ∙ ap (λ x. cond x (with_key key (s.holding r.who)) (s.holding r.who)) (attempt_refl r.who) in
-    let here : requests_in (s'.chains key) ≡ put_request r (requests_in (s.chains key)) = c.requests key ∙ ap (λ x. cond x (put_request r (requests_in (s.chains key))) (requests_in (s.chains key))) (same_refl key) in
+    let here : requests_in (s'.chains key) ≡ put_request r (requests_in (s.chains key)) = c.requests key ∙ ap (λ x. cond x (put_request r (requests_in (s.chains key))) (requests_in (s.chains key))) (same_self same_key same_tells key) in
     record {
       more = λ k x i. ⊎_elim
           (λ t. subst (λ l. IsIn x l) (sym t.1) (in_put r x (requests_in (s.chains key)) (inr (subst (λ q. IsIn x (requests_in (s.chains q))) (sym t.0) i))))
@@ -106,16 +54,10 @@ grew key r s s' c =
           (λ t. subst (λ l. StampsRise l) (sym t.1) (rise_put r (requests_in (s.chains key)) (subst (λ q. StampsRise (requests_in (s.chains q))) (sym t.0) f) apart))
           (λ e. subst (λ l. StampsRise l) (sym e.1) f)
           (cases k);
-      keys = p.keys;
-      mine = subst (λ (l : Holding). IsIn key l.keys) (sym mine) (key_in_put key key (s.holding r.who).keys (inl refl));
-      rising = p.rising;
-      writes = p.writes;
-      copies = p.copies;
-      appends = p.appends;
     }
   where
     cases : (k : Key) → ((key ≡ k) × (requests_in (s'.chains k) ≡ put_request r (requests_in (s.chains key)))) ⊎ ((key ≢ k) × (requests_in (s'.chains k) ≡ requests_in (s.chains k)))
-    cases k = at_key key k (requests_in (s'.chains k)) (put_request r (requests_in (s.chains key))) (requests_in (s.chains k)) (c.requests k)
+    cases k = at_place same_key same_tells key k (requests_in (s'.chains k)) (put_request r (requests_in (s.chains key))) (requests_in (s.chains k)) (c.requests k)
 
 -- the chain of a key with one more request
 pub granted_requests : (version : Number) (r : Request) (c : Chain) → (with_grant version r c).requests ≡ put_request r c.requests
@@ -135,10 +77,7 @@ grants_more key version r c old new there g = record {
       ap requests_in (g.lines k)
       ∙ in_cond (same_key key k) (option_map (with_grant version r) ((state_of old).chains key)) ((state_of old).chains k)
       ∙ ap (λ x. cond (same_key key k) x (requests_in ((state_of old).chains k))) (ap (λ x. requests_in (option_map (with_grant version r) x)) there ∙ granted_requests version r c ∙ ap (λ x. put_request r (requests_in x)) (sym there));
-  holding = g.parts;
-  versions = λ k. ap (λ x. version_at x k) g.store;
-  promised = g.promised;
-  spare = ap (λ x. x.spare) g.store;
+  notes = g.shelf;
 }
 
 pub waits_more : (key : Key) (r : Request) (c : Chain) (old new : Table) → (state_of old).chains key ≡ Some c → Waiting key r old new → More key r (state_of old) (state_of new)
@@ -147,10 +86,7 @@ waits_more key r c old new there g = record {
       ap requests_in (g.lines k)
       ∙ in_cond (same_key key k) (option_map (with_request r) ((state_of old).chains key)) ((state_of old).chains k)
       ∙ ap (λ x. cond (same_key key k) x (requests_in ((state_of old).chains k))) (ap (λ x. requests_in (option_map (with_request r) x)) there ∙ ap (λ x. put_request r (requests_in x)) (sym there));
-  holding = g.parts;
-  versions = λ k. ap (λ x. version_at x k) g.store;
-  promised = g.promised;
-  spare = ap (λ x. x.spare) g.store;
+  notes = g.shelf;
 }
 
 module _ (loaded : Rows) (h : History) (known : Known loaded h) (traced : Traced h) (who : Attempt) (stamp : ℕ) (key : Key) (mode : Mode) (may : MayAsk loaded h who stamp key) where
@@ -180,14 +116,7 @@ module _ (loaded : Rows) (h : History) (known : Known loaded h) (traced : Traced
             (t.real k x j))
             (g.only k x i);
         stamps_rise = λ k. g.rise k (t.stamps_rise k) (request_apart s t);
-        noted = λ x i u. ⊎_elim (λ e. subst (λ (z : Grant). IsIn z.key (s'.holding z.who).keys) (sym e) g.mine) (λ j. g.keys x.who x.key (t.noted x j u)) i;
-        noted_waiter = λ a i. g.keys a.who a.key (t.noted_waiter a i);
-        rising = λ x. g.rising x (t.rising x);
-        rows = λ x u. let o = t.rows x u in (g.writes x ∙ o.0, g.copies x ∙ o.1, g.appends x ∙ o.2);
-        tables = t.tables;
-        versions = λ k. ap (option_map version_of) (m.versions k) ∙ t.versions k;
-        promised = m.promised ∙ t.promised;
-        room = omega (arith, t.room, m.promised, m.spare);
+        kept = keeps_granted t.kept m.notes;
         waiting = w ∙ t.waiting;
       }
 
@@ -207,14 +136,7 @@ module _ (loaded : Rows) (h : History) (known : Known loaded h) (traced : Traced
             (t.real k x j))
             (g.only k x i);
         stamps_rise = λ k. g.rise k (t.stamps_rise k) (request_apart s t);
-        noted = λ x i u. g.keys x.who x.key (t.noted x i u);
-        noted_waiter = λ a i. ⊎_elim (λ e. subst (λ (z : Asked). IsIn z.key (s'.holding z.who).keys) (sym e) g.mine) (λ j. g.keys a.who a.key (t.noted_waiter a j)) i;
-        rising = λ x. g.rising x (t.rising x);
-        rows = λ x u. let o = t.rows x u in (g.writes x ∙ o.0, g.copies x ∙ o.1, g.appends x ∙ o.2);
-        tables = t.tables;
-        versions = λ k. ap (option_map version_of) (m.versions k) ∙ t.versions k;
-        promised = m.promised ∙ t.promised;
-        room = omega (arith, t.room, m.promised, m.spare);
+        kept = keeps_waiting t.kept m.notes;
         waiting = let e = t.waiting in omega (arith, w, e);
       }
 
@@ -228,13 +150,6 @@ module _ (loaded : Rows) (h : History) (known : Known loaded h) (traced : Traced
         (λ (q : IsWaiter loaded h k x). inr (record { asked = q.asked; there = q.there; here = q.here; same = q.same }))
         (t.real k x i);
     stamps_rise = t.stamps_rise;
-    noted = t.noted;
-    noted_waiter = t.noted_waiter;
-    rising = t.rising;
-    rows = t.rows;
-    tables = t.tables;
-    versions = t.versions;
-    promised = t.promised;
-    room = t.room;
+    kept = keeps_refused t.kept;
     waiting = t.waiting;
   }

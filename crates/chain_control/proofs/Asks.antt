@@ -15,19 +15,21 @@ use Rattle.protocol_rules.specs.History.{Ask, Prepare, History}
 use Rattle.protocol_rules.specs.Versions.{below}
 use Rattle.protocol_rules.specs.Waiting.{this}
 use Rattle.protocol_rules.specs.Mvcc.{mvcc}
+use Rattle.row_store.specs.Stores.{version_at}
 use Rattle.chain_control.specs.declared.requests.Request.{Request}
 use Rattle.chain_control.specs.declared.table.Table.{Table}
 use Rattle.chain_control.specs.Chains.{Chain, refusal}
 use Rattle.chain_control.specs.Tables.{chain_at, below_in, refusal_in, stopped_in, stamp_in}
-use Rattle.chain_control.specs.Holdings.{holding_at}
-use Rattle.chain_control.specs.Changes.{Opens, Stays, Grants, Waiting, MayNote, Promises, MayReserve, read_in, waiting, opened_with}
+use Rattle.shelf.specs.Shelves.{held}
+use Rattle.chain_control.specs.Changes.{Opens, Stays, Grants, Waiting, MayNote, Votes, MayVote, read_in, waiting, opened_with}
 use Rattle.chain_control.specs.Standing.{state_of, link_of, waiter_of, Stands}
-use Rattle.chain_control.proofs.Places.{same_tells}
+use Rattle.key_table.proofs.Places.{same_tells}
 use Rattle.chain_control.proofs.Asking.{grants_more, waits_more, ask_granted, ask_waits, ask_refused}
 use Rattle.chain_control.proofs.Preparing.{opened_tracks, opened_keeps, stays_tracks, stays_keeps, noted_tracks, noted_keeps, reserved_tracks, reserved_keeps, prepared_tracks, prepared_keeps}
 use Rattle.chain_control.proofs.Keeping.{granted_keeps, waiting_keeps, refused_keeps}
 use Rattle.chain_control.proofs.Bests.{passes_floor}
-use Rattle.chain_control.proofs.Answering.{refused_is, under_floor, found, waits_is, grants_is, vote_is, opens_some, waits_short}
+use Rattle.chain_control.proofs.Answering.{refused_is, under_floor, found, waits_is, grants_is, vote_is, opens_some}
+use Rattle.shelf.proofs.Counting.{waits_short}
 use Rattle.chain_control.proofs.Calls.{knows, sounds, traces}
 
 module _ (keep : ℕ) (t : Table) (loaded : Rows) (h : History) (stands : Stands keep t loaded h) where
@@ -37,17 +39,17 @@ module _ (keep : ℕ) (t : Table) (loaded : Rows) (h : History) (stands : Stands
   pub stays_stands : (new : Table) → Stays t new → Stands keep new loaded h
   stays_stands new c = record { obeys = stands.obeys; tracks = stays_tracks keep loaded h t new stands.tracks c; keeps = stays_keeps keep loaded h t new stands.keeps c }
 
-  pub noted_stands : (who : Attempt) (key : Key) (new : Table) → MayNote who key t new → Stands keep new loaded h
-  noted_stands who key new c = record { obeys = stands.obeys; tracks = noted_tracks keep loaded h t new who key stands.tracks c; keeps = noted_keeps keep loaded h t new who key stands.keeps c }
+  pub noted_stands : (who : Attempt) (stamp : ℕ) (key : Key) (new : Table) → MayNote who stamp key t new → Stands keep new loaded h
+  noted_stands who stamp key new c = record { obeys = stands.obeys; tracks = noted_tracks keep loaded h t new who stamp key stands.tracks c; keeps = noted_keeps keep loaded h t new who stamp key stands.keeps c }
 
-  pub reserved_stands : (new : Table) → MayReserve t new → Stands keep new loaded h
+  pub reserved_stands : (new : Table) → MayVote t new → Stands keep new loaded h
   reserved_stands new c = record { obeys = stands.obeys; tracks = reserved_tracks keep loaded h t new stands.tracks c; keeps = reserved_keeps keep loaded h t new stands.keeps c }
 
   -- what is kept of a key that is opened is there
   pub opened_there : (key : Key) (row : Row) (new : Table) → loaded key ≡ Some row → Opens key t new → (c : Chain) × (chain_at new.lines key ≡ Some c)
   opened_there key row new e c =
       let o = opens_some keep loaded h stands.obeys (knows keep t loaded h stands) (sounds keep t loaded h stands) (traces keep t loaded h stands) (state_of t) stands.tracks stands.keeps key row e in
-      (o.0, c.lines key ∙ ⊎_elim (λ y. ap (λ b. cond b (opened_with ((state_of t).versions key) (chain_at t.lines key)) (chain_at t.lines key)) y.0) (λ n. absurd (n.1 refl)) (same_tells key key) ∙ o.1)
+      (o.0, c.lines key ∙ ⊎_elim (λ y. ap (λ b. cond b (opened_with (version_at t.shelf.store key) (chain_at t.lines key)) (chain_at t.lines key)) y.0) (λ n. absurd (n.1 refl)) (same_tells key key) ∙ o.1)
 
   module _ (who : Attempt) (stamp : ℕ) (key : Key) (mode : Mode) (may : MayAsk loaded h who stamp key) where
     abbrev pub asked : Request
@@ -104,10 +106,10 @@ module _ (keep : ℕ) (t : Table) (loaded : Rows) (h : History) (stands : Stands
 
   -- a vote
   module _ (who : Attempt) (bound : Bound) (writes appends : List Keyed) (may : MayPrepare h who bound writes appends) where
-    pub votes_so : Yes (greatest_by (λ k. stamp_in who (chain_at t.lines k)) (holding_at t.parts who).keys) (greatest_by (λ k. stamp_in who (chain_at t.lines k)) (holding_at t.parts who).keys) ≡ (mvcc keep loaded).vote h who bound writes appends
+    pub votes_so : Yes (greatest_by (λ k. stamp_in who (chain_at t.lines k)) (held t.shelf who).keys) (greatest_by (λ k. stamp_in who (chain_at t.lines k)) (held t.shelf who).keys) ≡ (mvcc keep loaded).vote h who bound writes appends
     votes_so = ap (λ n. Yes n n) (vote_is keep loaded h stands.obeys (knows keep t loaded h stands) (sounds keep t loaded h stands) (traces keep t loaded h stands) (state_of t) stands.tracks stands.keeps who bound writes appends may)
 
-    pub votes_stands : (new : Table) → Promises who writes appends t new → Stands keep new loaded (Prepare who bound writes appends (Yes (greatest_by (λ k. stamp_in who (chain_at t.lines k)) (holding_at t.parts who).keys) (greatest_by (λ k. stamp_in who (chain_at t.lines k)) (holding_at t.parts who).keys)) ∷ h)
+    pub votes_stands : (new : Table) → Votes who writes appends t new → Stands keep new loaded (Prepare who bound writes appends (Yes (greatest_by (λ k. stamp_in who (chain_at t.lines k)) (held t.shelf who).keys) (greatest_by (λ k. stamp_in who (chain_at t.lines k)) (held t.shelf who).keys)) ∷ h)
     votes_stands new c = record {
       obeys = (may, votes_so, stands.obeys);
       tracks = prepared_tracks keep loaded h t new who bound writes appends may _ _ stands.tracks c;

@@ -4,7 +4,6 @@ use Rattle.deneva_base.specs.declared.keys.Key.{Key}
 use Rattle.deneva_base.specs.declared.keys.Mode.{Mode}
 use Rattle.deneva_base.specs.declared.numbers.Attempt.{Attempt}
 use Rattle.deneva_base.specs.declared.numbers.Number.{Number}
-use Rattle.deneva_base.specs.declared.rows.Keyed.{Keyed}
 use Rattle.deneva_base.specs.declared.rows.Cell.{Cell}
 use Rattle.deneva_base.specs.declared.answers.Wake.{Wake}
 use Rattle.deneva_base.specs.Lists.{IsIn, sort}
@@ -12,9 +11,8 @@ use Rattle.deneva_base.specs.Rows.{Row, Rows}
 use Rattle.deneva_base.specs.Keys.{number_lt}
 use Rattle.deneva_base.specs.Modes.{IsReading}
 use Rattle.protocol_rules.specs.Conditions.{MayCommit, MayAbort}
-use Rattle.protocol_rules.specs.History.{Commit, Abort, History, Asked, grants, waits, yeas, closed, grant_of_wake, is_woken, IsUnended, WaitsNowhere}
+use Rattle.protocol_rules.specs.History.{Commit, Abort, History, Asked, grants, waits, yeas, grant_of_wake, is_woken}
 use Rattle.protocol_rules.specs.Latest.{Version, latest, newer, seen, row_for, writes_in}
-use Rattle.protocol_rules.specs.Leaving.{later, left_in, rows_left}
 use Rattle.protocol_rules.specs.Order.{by_rising_stamp}
 use Rattle.protocol_rules.specs.Versions.{version_of as version_list, written, start, greatest, below}
 use Rattle.protocol_rules.specs.Waiting.{goes, wake_of}
@@ -27,11 +25,10 @@ use Rattle.protocol_rules.proofs.Traced.{Traced, traced}
 use Rattle.protocol_rules.proofs.Sorts.{Distinct, sort_in}
 use Rattle.protocol_rules.proofs.Wakes.{distinct_waits}
 use Rattle.protocol_rules.proofs.Mvccs.{stamping}
-use Rattle.protocol_rules.proofs.Stamping.{wakes_law, waits_law, windows_law, commit_keys, abort_keys}
+use Rattle.protocol_rules.proofs.Stamping.{wakes_law, waits_law, commit_keys, abort_keys}
 use Rattle.row_store.specs.declared.versions.Version.{Version as StoredVersion}
-use Rattle.row_store.specs.Stores.{version_at, has, row_in}
+use Rattle.row_store.specs.Stores.{version_at}
 use Rattle.control_core.specs.Leaving.{last}
-use Rattle.control_core.proofs.Lasts.{last_rows}
 use Rattle.chain_control.specs.declared.requests.Waiter.{Waiter}
 use Rattle.chain_control.specs.declared.links.Link.{Link}
 use Rattle.chain_control.specs.declared.table.Table.{Table}
@@ -39,15 +36,19 @@ use Rattle.chain_control.specs.Requests.{raised}
 use Rattle.chain_control.specs.Links.{link_below}
 use Rattle.chain_control.specs.Chains.{Chain}
 use Rattle.chain_control.specs.Tables.{chain_at, below_in, kept_in, new_of, goers_over}
-use Rattle.chain_control.specs.Holdings.{holding_at}
-use Rattle.chain_control.specs.Changes.{Ends, opened_with, read_after, wake_for, offered}
+use Rattle.shelf.specs.Shelves.{held}
+use Rattle.shelf.specs.Keeps.{Apart, version_of}
+use Rattle.shelf.proofs.Closing.{waits_same, commit_closes, abort_closes}
+use Rattle.shelf.proofs.Keeps.{committed_rows, aborted_rows}
+use Rattle.shelf.proofs.Versions.{apart, version_is}
+use Rattle.chain_control.specs.Changes.{EndsAndWakes, opened_with, read_after, wake_for}
 use Rattle.chain_control.specs.Kept.{kept}
-use Rattle.chain_control.specs.Standing.{state_of, requests_in, links_in, link_of, waiter_of, Stands, version_of}
+use Rattle.chain_control.specs.Standing.{requests_in, links_in, link_of, waiter_of, Stands}
 use Rattle.chain_control.proofs.Bests.{waiter_keeps, best_is}
 use Rattle.chain_control.proofs.Keeping.{opened_some}
-use Rattle.chain_control.proofs.Answering.{version_is, is_present, length_filter}
-use Rattle.chain_control.proofs.Ending.{Apart, votes_apart, promised_less, waits_same, committed_version}
-use Rattle.chain_control.proofs.Waking.{to_waiter, length_map, length_sort}
+use Rattle.std.proofs.lemmas.List.{length-map}
+use Rattle.shelf.proofs.Counting.{length_filter, length_sort}
+use Rattle.chain_control.proofs.Waking.{to_waiter}
 use Rattle.chain_control.proofs.Closing.{Step, front_table, end_tracks, end_keeps}
 
 -- the version below a stamp with a row that comes under a number
@@ -104,7 +105,7 @@ module _ (keep : ℕ) (t : Table) (loaded : Rows) (h : History) (stands : Stands
   traces = traced loaded (mvcc keep loaded) h stands.obeys wakes
 
   votes : Apart (yeas h)
-  votes = votes_apart loaded (mvcc keep loaded) h stands.obeys (λ k o. sound loaded (mvcc keep loaded) k o)
+  votes = apart (mvcc keep loaded) stands.tracks.kept stands.obeys
 
   distinct : Distinct (waits h)
   distinct = distinct_waits loaded (mvcc keep loaded) h stands.obeys
@@ -112,30 +113,12 @@ module _ (keep : ℕ) (t : Table) (loaded : Rows) (h : History) (stands : Stands
   reading : (a : Asked) → IsIn a (waits h) → IsReading a.mode
   reading a i = (waits_law true loaded (mvcc keep loaded) (stamping keep loaded) h stands.obeys a i).0
 
-  -- what the end of an attempt asks of the table
-  pub present : (who : Attempt) → IsUnended h who → (w : Keyed) → IsIn w (holding_at t.parts who).writes → has t.store w.key ≡ true
-  present who u w i = is_present keep loaded h stands.obeys knows sounds traces (state_of t) stands.tracks stands.keeps who w u i
-
-  pub promised : (who : Attempt) → IsUnended h who → length (holding_at t.parts who).appends ≤ t.promised
-  promised who u =
-      let mine = ap (λ (l : List Keyed). length l) (stands.tracks.rows who u).2 in
-      let less = promised_less h (Abort who [] ∷ h) who (yeas h) refl u votes in
-      omega (arith, mine, less, stands.tracks.promised)
-
-  -- the rows that are left
-  pub rows_are : (key : Key) → row_in t.store key ≡ rows_left loaded h key
-  rows_are key = rows (version_at t.store key) ∙ ap (option_map (λ v. v.row)) (stands.tracks.versions key) ∙ last_rows loaded (mvcc keep loaded) (λ k o. windows_law true loaded (mvcc keep loaded) (stamping keep loaded) k o) h key stands.obeys
-    where
-      rows : (v : Option StoredVersion) → option_map (λ x. x.row) v ≡ option_map (λ x. x.row) (option_map version_of v)
-      rows None = refl
-      rows (Some v) = refl
-
   -- how many versions are kept
   pub kept_are : (key : Key) (row : Row) → loaded key ≡ Some row → kept_in (chain_at t.lines key) ≡ length (kept keep loaded h key)
   kept_are key row e =
-      go (version_at t.store key) (chain_at t.lines key) (version_is keep loaded h stands.obeys knows sounds traces (state_of t) stands.tracks stands.keeps key row e)
+      go (version_at t.shelf.store key) (chain_at t.lines key) (version_is (mvcc keep loaded) stands.tracks.kept stands.obeys key row e)
       ∙ ap (λ (l : List Link). length l) (stands.keeps.links key row e)
-      ∙ length_map (link_of h key) (kept keep loaded h key)
+      ∙ length-map (kept keep loaded h key) (link_of h key)
     where
       go : (v : Option StoredVersion) (c : Option Chain) → option_map version_of v ≡ Some (latest loaded h key) → kept_in c ≡ length (links_in (opened_with v c))
       go None c e = absurd (cc e)
@@ -146,30 +129,30 @@ module _ (keep : ℕ) (t : Table) (loaded : Rows) (h : History) (stands : Stands
   module _ (h1 h2 : History) (who : Attempt) (number : Option Number) (p : Step keep loaded h h1 h2 who number)
       (reads_after : (k : Key) (stamp : ℕ) → read_after number (row_for k (writes_in (yeas h) who)) stamp (Some (link_of h k (below loaded h k stamp))) ≡ ((below loaded h1 k stamp).row, (below loaded h1 k stamp).number)) where
     abbrev front : List Waiter
-    front = goers_over who number (holding_at t.parts who).writes t.lines (holding_at t.parts who).keys
+    front = goers_over who number (held t.shelf who).writes t.lines (held t.shelf who).keys
 
     abbrev woken : List Asked
     woken = sort by_rising_stamp (filter (goes (writer_between loaded h1) h h1 who) (waits h))
 
-    front_is : goers_over who number (holding_at t.parts who).writes t.lines (holding_at t.parts who).keys ≡ map (to_waiter loaded h1) (sort by_rising_stamp (filter (goes (writer_between loaded h1) h h1 who) (waits h)))
+    front_is : goers_over who number (held t.shelf who).writes t.lines (held t.shelf who).keys ≡ map (to_waiter loaded h1) (sort by_rising_stamp (filter (goes (writer_between loaded h1) h h1 who) (waits h)))
     front_is = front_table keep loaded h h1 h2 who number stands.obeys knows sounds votes distinct reading p t t stands.tracks stands.keeps
 
-    pub few : length (goers_over who number (holding_at t.parts who).writes t.lines (holding_at t.parts who).keys) ≤ t.waiting
+    pub few : length (goers_over who number (held t.shelf who).writes t.lines (held t.shelf who).keys) ≤ t.waiting
     few =
         let e = ap (λ (l : List Waiter). length l) front_is in
-        let m = length_map (to_waiter loaded h1) woken in
+        let m = length-map woken (to_waiter loaded h1) in
         let s = length_sort by_rising_stamp (filter (goes (writer_between loaded h1) h h1 who) (waits h)) in
         let f = length_filter (goes (writer_between loaded h1) h h1 who) (waits h) in
         omega (arith, e, m, s, f, stands.tracks.waiting)
 
-    pub wakes_are : map (wake_for t.lines number (holding_at t.parts who).writes) (goers_over who number (holding_at t.parts who).writes t.lines (holding_at t.parts who).keys) ≡ map (wake_of loaded h1) (sort by_rising_stamp (filter (goes (writer_between loaded h1) h h1 who) (waits h)))
-    wakes_are = ap (map (wake_for t.lines number (holding_at t.parts who).writes)) front_is ∙ map_wakes (wake_for t.lines number (holding_at t.parts who).writes) (wake_of loaded h1) (to_waiter loaded h1) woken each
+    pub wakes_are : map (wake_for t.lines number (held t.shelf who).writes) (goers_over who number (held t.shelf who).writes t.lines (held t.shelf who).keys) ≡ map (wake_of loaded h1) (sort by_rising_stamp (filter (goes (writer_between loaded h1) h h1 who) (waits h)))
+    wakes_are = ap (map (wake_for t.lines number (held t.shelf who).writes)) front_is ∙ map_wakes (wake_for t.lines number (held t.shelf who).writes) (wake_of loaded h1) (to_waiter loaded h1) woken each
       where
         found : (a : Asked) → IsIn a (waits h) → (c : Option Chain) → chain_at t.lines a.key ≡ c → below_in a.stamp (chain_at t.lines a.key) ≡ Some (link_of h a.key (below loaded h a.key a.stamp))
         found a i None e = absurd (subst (λ y. IsIn (waiter_of loaded h a) (requests_in y)) e (stands.tracks.queued a i))
         found a i (Some c) e =
             let row = knows.here a (knows.asked a i) in
-            let opened : opened_with (version_at t.store a.key) (chain_at t.lines a.key) ≡ Some c = ap (opened_with (version_at t.store a.key)) e ∙ opened_some (version_at t.store a.key) c in
+            let opened : opened_with (version_at t.shelf.store a.key) (chain_at t.lines a.key) ≡ Some c = ap (opened_with (version_at t.shelf.store a.key)) e ∙ opened_some (version_at t.shelf.store a.key) c in
             ap (below_in a.stamp) e
             ∙ ap (link_below a.stamp None) (sym (ap links_in opened) ∙ stands.keeps.links a.key row.0 row.1)
             ∙ best_is keep loaded h stands.obeys a.key a.stamp (knows.positive a (knows.asked a i)) (waiter_keeps keep loaded h stands.obeys a.key a i refl)
@@ -177,15 +160,15 @@ module _ (keep : ℕ) (t : Table) (loaded : Rows) (h : History) (stands : Stands
         seen_is : (m : Mode) (v : Version) → IsReading m → seen m v ≡ v
         seen_is m v r = ap (λ b. cond b v (record { number = record { n = 0; id = record { 0 = 0 } }; row = [] })) ((reading_decides m).1 r)
 
-        each : (a : Asked) → IsIn a woken → wake_for t.lines number (holding_at t.parts who).writes (to_waiter loaded h1 a) ≡ wake_of loaded h1 a
+        each : (a : Asked) → IsIn a woken → wake_for t.lines number (held t.shelf who).writes (to_waiter loaded h1 a) ≡ wake_of loaded h1 a
         each a i =
             let w : IsIn a (waits h) = (filter_in (goes (writer_between loaded h1) h h1 who) a (waits h) (sort_in by_rising_stamp a (filter (goes (writer_between loaded h1) h h1 who) (waits h)) i)).0 in
-            let r : read_after number (row_for a.key (holding_at t.parts who).writes) a.stamp (below_in a.stamp (chain_at t.lines a.key)) ≡ ((below loaded h1 a.key a.stamp).row, (below loaded h1 a.key a.stamp).number) =
-            ap₂ (λ ws b. read_after number (row_for a.key ws) a.stamp b) (stands.tracks.rows who p.closes.unended).0 (found a w (chain_at t.lines a.key) refl) ∙ reads_after a.key a.stamp in
+            let r : read_after number (row_for a.key (held t.shelf who).writes) a.stamp (below_in a.stamp (chain_at t.lines a.key)) ≡ ((below loaded h1 a.key a.stamp).row, (below loaded h1 a.key a.stamp).number) =
+            ap₂ (λ ws b. read_after number (row_for a.key ws) a.stamp b) (stands.tracks.kept.rows who p.leaves.closes.unended).0 (found a w (chain_at t.lines a.key) refl) ∙ reads_after a.key a.stamp in
             ap (λ (x : List Cell × Number). record { who = a.who; key = a.key; row = x.0; version = x.1; bound = 0 }) r
             ∙ ap (λ (v : Version). record { who = a.who; key = a.key; row = v.row; version = v.number; bound = 0 }) (sym (seen_is a.mode (below loaded h1 a.key a.stamp) (reading a w)))
 
-    pub end_stands : (new : Table) → Ends keep who number (goers_over who number (holding_at t.parts who).writes t.lines (holding_at t.parts who).keys) t new → ((k : Key) → option_map version_of (version_at new.store k) ≡ last loaded h1 k) → Stands keep new loaded h2
+    pub end_stands : (new : Table) → EndsAndWakes keep who number (goers_over who number (held t.shelf who).writes t.lines (held t.shelf who).keys) t new → ((k : Key) → option_map version_of (version_at new.shelf.store k) ≡ last loaded h1 k) → Stands keep new loaded h2
     end_stands new e versions =
         let tracks = end_tracks keep loaded h h1 h2 who number stands.obeys knows sounds votes distinct reading p t new stands.tracks stands.keeps e versions in
         record { obeys = p.obeys; tracks = tracks; keeps = end_keeps keep loaded h h1 h2 who number stands.obeys knows sounds votes distinct reading p t new stands.tracks stands.keeps e tracks }
@@ -195,12 +178,9 @@ module _ (keep : ℕ) (t : Table) (loaded : Rows) (h : History) (stands : Stands
     abbrev h1 : History
     h1 = Commit who number [] ∷ h
 
-    nowhere : WaitsNowhere h who
-    nowhere a i e = knows.opened a i (subst (λ w. IsIn w (closed h)) (may.inside.2 ∙ sym e) (sounds.closes may.inside.0 may.inside.1))
-
     commit_step : Step keep loaded h (Commit who number [] ∷ h) (Commit who number ((mvcc keep loaded).commit h who number) ∷ h) who (Some number)
     commit_step = record {
-      closes = record { grants_same = refl; waits_kept = waits_same (waits h); ended_more = refl; yeas_same = refl; unended = may.unended; nowhere = nowhere; raises = λ k stamp. raises_is loaded h k stamp number (row_for k (writes_in (yeas h) who)) };
+      leaves = record { closes = commit_closes knows sounds may; raises = λ k stamp. raises_is loaded h k stamp number (row_for k (writes_in (yeas h) who)) };
       obeys = (may, refl, stands.obeys);
       known1 = known_more loaded h (Commit who number []) may sounds knows;
       law = λ a i n. commit_keys true loaded (mvcc keep loaded) (stamping keep loaded) h who number a stands.obeys i n;
@@ -210,26 +190,24 @@ module _ (keep : ℕ) (t : Table) (loaded : Rows) (h : History) (stands : Stands
         ended_same = refl;
         yeas_same = refl;
         last_same = λ k. refl;
-        below_same = λ k stamp. refl;
       };
+      below_same = λ k stamp. refl;
       written_more = λ k. refl;
       waits_less = refl;
       grants_more = refl;
       latest_same = λ k e. ap (newer (latest loaded h k) number) e;
     }
 
-    pub commit_few : length (goers_over who (Some number) (holding_at t.parts who).writes t.lines (holding_at t.parts who).keys) ≤ t.waiting
+    pub commit_few : length (goers_over who (Some number) (held t.shelf who).writes t.lines (held t.shelf who).keys) ≤ t.waiting
     commit_few = few (Commit who number [] ∷ h) (Commit who number ((mvcc keep loaded).commit h who number) ∷ h) who (Some number) commit_step (λ k stamp. reads_is loaded h k stamp number (row_for k (writes_in (yeas h) who)))
 
-    pub commit_wakes : map (wake_for t.lines (Some number) (holding_at t.parts who).writes) (goers_over who (Some number) (holding_at t.parts who).writes t.lines (holding_at t.parts who).keys) ≡ (mvcc keep loaded).commit h who number
+    pub commit_wakes : map (wake_for t.lines (Some number) (held t.shelf who).writes) (goers_over who (Some number) (held t.shelf who).writes t.lines (held t.shelf who).keys) ≡ (mvcc keep loaded).commit h who number
     commit_wakes = wakes_are (Commit who number [] ∷ h) (Commit who number ((mvcc keep loaded).commit h who number) ∷ h) who (Some number) commit_step (λ k stamp. reads_is loaded h k stamp number (row_for k (writes_in (yeas h) who)))
 
-    pub commit_stands : (new : Table) → Ends keep who (Some number) (goers_over who (Some number) (holding_at t.parts who).writes t.lines (holding_at t.parts who).keys) t new → Stands keep new loaded (Commit who number ((mvcc keep loaded).commit h who number) ∷ h)
+    pub commit_stands : (new : Table) → EndsAndWakes keep who (Some number) (goers_over who (Some number) (held t.shelf who).writes t.lines (held t.shelf who).keys) t new → Stands keep new loaded (Commit who number ((mvcc keep loaded).commit h who number) ∷ h)
     commit_stands new e =
-        let rows = stands.tracks.rows who may.unended in
         end_stands (Commit who number [] ∷ h) (Commit who number ((mvcc keep loaded).commit h who number) ∷ h) who (Some number) commit_step (λ k stamp. reads_is loaded h k stamp number (row_for k (writes_in (yeas h) who))) new e
-        (λ k. ap (option_map version_of) (e.versions k ∙ ap (λ ws. offered number (holding_at t.parts who).appends k (offered number ws k (version_at t.store k))) rows.0 ∙ ap (λ as'. offered number as' k (offered number (writes_in (yeas h) who) k (version_at t.store k))) rows.2)
-        ∙ committed_version number (yeas h) who k (version_at t.store k) ∙ ap (λ v. later v number (row_for k (left_in (yeas h) who))) (stands.tracks.versions k))
+        (committed_rows stands.tracks.kept may.unended e.shelf)
 
   -- an abort
   module _ (who : Attempt) (may : MayAbort h who) where
@@ -238,7 +216,7 @@ module _ (keep : ℕ) (t : Table) (loaded : Rows) (h : History) (stands : Stands
 
     abort_step : Step keep loaded h (Abort who [] ∷ h) (Abort who ((mvcc keep loaded).abort h who) ∷ h) who None
     abort_step = record {
-      closes = record { grants_same = refl; waits_kept = waits_same (waits h); ended_more = refl; yeas_same = refl; unended = may.unended; nowhere = may.nowhere; raises = λ k stamp. aborted_is loaded h k stamp (row_for k (writes_in (yeas h) who)) };
+      leaves = record { closes = abort_closes may; raises = λ k stamp. aborted_is loaded h k stamp (row_for k (writes_in (yeas h) who)) };
       obeys = (may, refl, stands.obeys);
       known1 = known_more loaded h (Abort who []) may sounds knows;
       law = λ a i n. abort_keys true loaded (mvcc keep loaded) (stamping keep loaded) h who a stands.obeys i n;
@@ -248,19 +226,19 @@ module _ (keep : ℕ) (t : Table) (loaded : Rows) (h : History) (stands : Stands
         ended_same = refl;
         yeas_same = refl;
         last_same = λ k. refl;
-        below_same = λ k stamp. refl;
       };
+      below_same = λ k stamp. refl;
       written_more = λ k. refl;
       waits_less = refl;
       grants_more = refl;
       latest_same = λ k e. refl;
     }
 
-    pub abort_few : length (goers_over who None (holding_at t.parts who).writes t.lines (holding_at t.parts who).keys) ≤ t.waiting
+    pub abort_few : length (goers_over who None (held t.shelf who).writes t.lines (held t.shelf who).keys) ≤ t.waiting
     abort_few = few (Abort who [] ∷ h) (Abort who ((mvcc keep loaded).abort h who) ∷ h) who None abort_step (λ k stamp. refl)
 
-    pub abort_wakes : map (wake_for t.lines None (holding_at t.parts who).writes) (goers_over who None (holding_at t.parts who).writes t.lines (holding_at t.parts who).keys) ≡ (mvcc keep loaded).abort h who
+    pub abort_wakes : map (wake_for t.lines None (held t.shelf who).writes) (goers_over who None (held t.shelf who).writes t.lines (held t.shelf who).keys) ≡ (mvcc keep loaded).abort h who
     abort_wakes = wakes_are (Abort who [] ∷ h) (Abort who ((mvcc keep loaded).abort h who) ∷ h) who None abort_step (λ k stamp. refl)
 
-    pub abort_stands : (new : Table) → Ends keep who None (goers_over who None (holding_at t.parts who).writes t.lines (holding_at t.parts who).keys) t new → Stands keep new loaded (Abort who ((mvcc keep loaded).abort h who) ∷ h)
-    abort_stands new e = end_stands (Abort who [] ∷ h) (Abort who ((mvcc keep loaded).abort h who) ∷ h) who None abort_step (λ k stamp. refl) new e (λ k. ap (option_map version_of) (e.versions k) ∙ stands.tracks.versions k)
+    pub abort_stands : (new : Table) → EndsAndWakes keep who None (goers_over who None (held t.shelf who).writes t.lines (held t.shelf who).keys) t new → Stands keep new loaded (Abort who ((mvcc keep loaded).abort h who) ∷ h)
+    abort_stands new e = end_stands (Abort who [] ∷ h) (Abort who ((mvcc keep loaded).abort h who) ∷ h) who None abort_step (λ k stamp. refl) new e (aborted_rows stands.tracks.kept e.shelf)

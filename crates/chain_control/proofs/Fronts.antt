@@ -26,11 +26,13 @@ use Rattle.chain_control.specs.declared.lines.Lines.{Lines}
 use Rattle.chain_control.specs.Requests.{stands_between, waiter_for}
 use Rattle.chain_control.specs.Chains.{Chain}
 use Rattle.chain_control.specs.Tables.{chain_at, new_of, goers_in, goers_over}
-use Rattle.chain_control.specs.Standing.{State, requests_in, owner_of, waiter_of, IsOwner, IsWaiter, StampsRise, Rising, Tracks}
+use Rattle.chain_control.specs.Standing.{State, requests_in, owner_of, waiter_of, IsOwner, IsWaiter, StampsRise, Tracks}
+use Rattle.shelf.specs.Shelves.{held}
+use Rattle.shelf.specs.Keeps.{Rising}
 use Rattle.chain_control.proofs.Lists.{map_both}
 use Rattle.chain_control.proofs.Answering.{between_is}
 use Rattle.chain_control.proofs.Goers.{bars, is_barred, goes_in, goers_are}
-use Rattle.chain_control.proofs.Ending.{Closes}
+use Rattle.chain_control.proofs.Ending.{Leaves}
 use Rattle.chain_control.proofs.Waking.{to_waiter}
 
 abbrev pub access_of : Key → Request → Asked
@@ -63,7 +65,7 @@ not_false : (b : Bool) → not b ≡ true → b ≡ false
 not_false true e = absurd (true≢false (sym e))
 not_false false e = refl
 
-module _ (keep : ℕ) (loaded : Rows) (h h1 : History) (who : Attempt) (number : Option Number) (known : Known loaded h) (distinct : Distinct (waits h)) (c : Closes loaded h h1 who number)
+module _ (keep : ℕ) (loaded : Rows) (h h1 : History) (who : Attempt) (number : Option Number) (known : Known loaded h) (distinct : Distinct (waits h)) (c : Leaves loaded h h1 who number)
     (law : (a : Asked) → IsIn a (waits h) → holds h who a.key ≡ false → list_any (writer_between loaded h1 a) (holders h1) ≡ true)
     (s : State) (t : Tracks loaded s h) where
   abbrev pub new : Key → Option Number
@@ -82,10 +84,10 @@ module _ (keep : ℕ) (loaded : Rows) (h h1 : History) (who : Attempt) (number :
       ⊎_elim
       (λ (o : IsOwner h a.key r).
       let other : o.grant.who ≢ who = λ x. ⊎_elim (λ m. true≢false (sym p.0 ∙ ap not m.0)) (λ m. m.1 (ap (λ (z : Request). z.who) o.same ∙ x)) (attempt_tells r.who who) in
-      let unended : IsUnended h1 o.grant.who = λ j. ⊎_elim (λ x. other x) (λ k. o.unended k) (subst (λ l. IsIn o.grant.who l) c.ended_more j) in
+      let unended : IsUnended h1 o.grant.who = λ j. ⊎_elim (λ x. other x) (λ k. o.unended k) (subst (λ l. IsIn o.grant.who l) c.closes.ended_more j) in
       inl (
         as_asked o.grant,
-        in_held h1 (grants h1) o.grant (subst (λ l. IsIn o.grant l) (sym c.grants_same) o.there) unended,
+        in_held h1 (grants h1) o.grant (subst (λ l. IsIn o.grant l) (sym c.closes.grants_same) o.there) unended,
         between_is loaded h1 a.who a.stamp a.key a.mode (as_asked o.grant) r (ap (λ (z : Request). z.stamp) o.same) (ap (λ (z : Request). z.mode) o.same)
             ∙ and_true (key_eq o.grant.key a.key) (stands_between (low a) a.stamp r) ((key_decides o.grant.key a.key).1 o.here) p.1,
       ))
@@ -104,16 +106,16 @@ module _ (keep : ℕ) (loaded : Rows) (h h1 : History) (who : Attempt) (number :
   holder_bars : (a b : Asked) → IsIn b (holders h1) → writer_between loaded h1 a b ≡ true → is_barred who (low a) a.stamp (requests_in (s.chains a.key)) ≡ true
   holder_bars a b i e =
       let g = held_from h1 (grants h1) b i in
-      let n : g.0.who ≢ who = λ x. g.2 (subst (λ l. IsIn g.0.who l) (sym c.ended_more) (inl x)) in
-      let u : IsUnended h g.0.who = λ j. g.2 (subst (λ l. IsIn g.0.who l) (sym c.ended_more) (inr j)) in
+      let n : g.0.who ≢ who = λ x. g.2 (subst (λ l. IsIn g.0.who l) (sym c.closes.ended_more) (inl x)) in
+      let u : IsUnended h g.0.who = λ j. g.2 (subst (λ l. IsIn g.0.who l) (sym c.closes.ended_more) (inr j)) in
       let e2 : writer_between loaded h1 a (as_asked g.0) ≡ true = ap (writer_between loaded h1 a) (sym g.3) ∙ e in
       let p = and_parts (key_eq g.0.key a.key) (stands_between (low a) a.stamp (owner_of g.0)) (sym (between_is loaded h1 a.who a.stamp a.key a.mode (as_asked g.0) (owner_of g.0) refl refl) ∙ e2) in
-      bar a (owner_of g.0) (subst (λ k. IsIn (owner_of g.0) (requests_in (s.chains k))) ((key_decides g.0.key a.key).0 p.0) (t.owned g.0 (subst (λ l. IsIn g.0 l) c.grants_same g.1) u)) n p.1
+      bar a (owner_of g.0) (subst (λ k. IsIn (owner_of g.0) (requests_in (s.chains k))) ((key_decides g.0.key a.key).0 p.0) (t.owned g.0 (subst (λ l. IsIn g.0 l) c.closes.grants_same g.1) u)) n p.1
 
   waiter_bars : (a b : Asked) → IsIn b (waits h) → writer_between loaded h1 a b ≡ true → is_barred who (low a) a.stamp (requests_in (s.chains a.key)) ≡ true
   waiter_bars a b i e =
       let p = and_parts (key_eq b.key a.key) (stands_between (low a) a.stamp (waiter_of loaded h b)) (sym (between_is loaded h1 a.who a.stamp a.key a.mode b (waiter_of loaded h b) refl refl) ∙ e) in
-      bar a (waiter_of loaded h b) (subst (λ k. IsIn (waiter_of loaded h b) (requests_in (s.chains k))) ((key_decides b.key a.key).0 p.0) (t.queued b i)) (c.nowhere b i) p.1
+      bar a (waiter_of loaded h b) (subst (λ k. IsIn (waiter_of loaded h b) (requests_in (s.chains k))) ((key_decides b.key a.key).0 p.0) (t.queued b i)) (c.closes.nowhere b i) p.1
 
   none_any : (p : Asked → Bool) (xs : List Asked) → ((x : Asked) → IsIn x xs → p x ≡ true → ⊥) → list_any p xs ≡ false
   none_any p xs f = false_from_ne_true (list_any p xs) (λ e. let x = any_found p xs e in f x.0 x.1 x.2)
@@ -131,15 +133,15 @@ module _ (keep : ℕ) (loaded : Rows) (h h1 : History) (who : Attempt) (number :
       and_true (holds h who a.key) (not (list_any (writer_between loaded h1 a) (holders h1)) && not (list_any (writer_between loaded h1 a) (waits h))) has
       (and_true (not (list_any (writer_between loaded h1 a) (holders h1))) (not (list_any (writer_between loaded h1 a) (waits h))) (ap not held) (ap not waiting))
 
-  pub from_goes : (a : Asked) → IsIn a (waits h) → goes_here a ≡ true → IsIn a.key (s.holding who).keys × (goes_in who (new a.key) (requests_in (s.chains a.key)) (waiter_of loaded h a) ≡ true)
+  pub from_goes : (a : Asked) → IsIn a (waits h) → goes_here a ≡ true → IsIn a.key (held s.shelf who).keys × (goes_in who (new a.key) (requests_in (s.chains a.key)) (waiter_of loaded h a) ≡ true)
   from_goes a i e =
       let p = and_parts (holds h who a.key) (not (list_any (writer_between loaded h1 a) (holders h1)) && not (list_any (writer_between loaded h1 a) (waits h))) e in
       let q = and_parts (not (list_any (writer_between loaded h1 a) (holders h1))) (not (list_any (writer_between loaded h1 a) (waits h))) p.1 in
       let f = any_found (λ (g : Grant). attempt_eq g.who who && key_eq g.key a.key) (grants h) p.0 in
       let r = and_parts (attempt_eq f.0.who who) (key_eq f.0.key a.key) f.2 in
       let mine : f.0.who ≡ who = (attempt_decides f.0.who who).0 r.0 in
-      let noted = t.noted f.0 f.1 (subst (λ w. IsUnended h w) (sym mine) c.unended) in (
-        subst (λ k. IsIn k (s.holding who).keys) ((key_decides f.0.key a.key).0 r.1) (subst (λ w. IsIn f.0.key (s.holding w).keys) mine noted),
+      let noted = t.kept.noted f.0 f.1 (subst (λ w. IsUnended h w) (sym mine) c.closes.unended) in (
+        subst (λ k. IsIn k (held s.shelf who).keys) ((key_decides f.0.key a.key).0 r.1) (subst (λ w. IsIn f.0.key (held s.shelf w).keys) mine noted),
         goes_test a i ∙ ap not (false_from_ne_true (is_barred who (low a) a.stamp (requests_in (s.chains a.key))) (λ b.
             let x = any_found (bars who (low a) a.stamp) (requests_in (s.chains a.key)) b in
             ⊎_elim
@@ -203,16 +205,16 @@ module _ (keep : ℕ) (loaded : Rows) (h h1 : History) (who : Attempt) (number :
       later true e c = refl
       later false e c = absurd (true≢false (sym e))
 
-  pub all_keys : of_keys (s.holding who).keys ≡ sort by_rising_stamp (filter goes_here (waits h))
+  pub all_keys : of_keys (held s.shelf who).keys ≡ sort by_rising_stamp (filter goes_here (waits h))
   all_keys =
-      sorted_unique by_rising_stamp rising_trans rising_irrefl (of_keys (s.holding who).keys) (sort by_rising_stamp (filter goes_here (waits h)))
-      (keys_sorted (s.holding who).keys (t.rising who))
+      sorted_unique by_rising_stamp rising_trans rising_irrefl (of_keys (held s.shelf who).keys) (sort by_rising_stamp (filter goes_here (waits h)))
+      (keys_sorted (held s.shelf who).keys (t.kept.rising who))
       (sorted_sort by_rising_stamp rising_trans (filter goes_here (waits h)) (distinct_filter goes_here (waits h) distinct) (waits_total true loaded h known goes_here))
-      (λ x i. let o = of_keys_in (s.holding who).keys x i in in_sort by_rising_stamp x (filter goes_here (waits h)) (in_filter goes_here x (waits h) o.0 o.1))
+      (λ x i. let o = of_keys_in (held s.shelf who).keys x i in in_sort by_rising_stamp x (filter goes_here (waits h)) (in_filter goes_here x (waits h) o.0 o.1))
       (λ x i.
       let f = filter_in goes_here x (waits h) (sort_in by_rising_stamp x (filter goes_here (waits h)) i) in
       let g = from_goes x f.0 f.1 in
-      in_of_keys (s.holding who).keys x (in_of_key x f.0 g.1) g.0)
+      in_of_keys (held s.shelf who).keys x (in_of_key x f.0 g.1) g.0)
 
   map_append : (xs ys : List Asked) → map (to_waiter loaded h1) (xs ++ ys) ≡ map (to_waiter loaded h1) xs ++ map (to_waiter loaded h1) ys
   map_append [] ys = refl
@@ -235,5 +237,5 @@ module _ (keep : ℕ) (loaded : Rows) (h h1 : History) (who : Attempt) (number :
       (front_is lines rows ks w e)
       ∙ sym (map_append (of_key k) (of_keys ks))
 
-  pub front_all : (lines : Lines) (rows : List Keyed) → rows ≡ writes_in (yeas h) who → ((k : Key) → chain_at lines k ≡ s.chains k) → goers_over who number rows lines (s.holding who).keys ≡ map (to_waiter loaded h1) (sort by_rising_stamp (filter goes_here (waits h)))
-  front_all lines rows w e = front_is lines rows (s.holding who).keys w e ∙ ap (map (to_waiter loaded h1)) all_keys
+  pub front_all : (lines : Lines) (rows : List Keyed) → rows ≡ writes_in (yeas h) who → ((k : Key) → chain_at lines k ≡ s.chains k) → goers_over who number rows lines (held s.shelf who).keys ≡ map (to_waiter loaded h1) (sort by_rising_stamp (filter goes_here (waits h)))
+  front_all lines rows w e = front_is lines rows (held s.shelf who).keys w e ∙ ap (map (to_waiter loaded h1)) all_keys

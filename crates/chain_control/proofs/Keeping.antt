@@ -27,7 +27,8 @@ use Rattle.chain_control.specs.Kept.{in_order, awaited, is_kept, kept}
 use Rattle.chain_control.specs.Standing.{State, state_of, links_in, floor_in, link_of, Keeps}
 use Rattle.chain_control.proofs.Lists.{map_same, map_both, filter_same}
 use Rattle.chain_control.proofs.Apart.{number_eq_sym, one_n}
-use Rattle.chain_control.proofs.Asking.{at_key}
+use Rattle.key_table.specs.Keys.{same_key}
+use Rattle.key_table.proofs.Places.{same_tells, at_place}
 
 pub opened_some : (v : Option StoredVersion) (c : Chain) → opened_with v (Some c) ≡ Some c
 opened_some None c = refl
@@ -83,7 +84,7 @@ module _ (keep : ℕ) (loaded : Rows) (h : History) (who : Attempt) (stamp : ℕ
         (λ x. ap links_in (same q x.1) ∙ k.links q r e ∙ map_same (link_of h q) (link_of (after h who stamp key mode row version bound) q) (kept keep loaded h q) (λ v i. mark_other h who stamp key mode row version bound q v x.0))
         (cases q);
     floor = λ q r e. ⊎_elim
-        (λ x. ap floor_in (ap (opened_with (s'.versions q)) x.1 ∙ ap (λ z. opened_with (s'.versions q) (option_map (with_grant version asked) z)) there ∙ opened_some (s'.versions q) (with_grant version asked c)) ∙ floor_grant (reads mode) ∙ sym (ap floor_in (opened q x.0)) ∙ k.floor q r e)
+        (λ x. ap floor_in (ap (opened_with (version_at s'.shelf.store q)) x.1 ∙ ap (λ z. opened_with (version_at s'.shelf.store q) (option_map (with_grant version asked) z)) there ∙ opened_some (version_at s'.shelf.store q) (with_grant version asked c)) ∙ floor_grant (reads mode) ∙ sym (ap floor_in (opened q x.0)) ∙ k.floor q r e)
         (λ x. ap floor_in (same q x.1) ∙ k.floor q r e)
         (cases q);
   }
@@ -98,22 +99,22 @@ module _ (keep : ℕ) (loaded : Rows) (h : History) (who : Attempt) (stamp : ℕ
       asked = record { who = who; stamp = stamp; mode = mode; waits = None }
 
       cases : (q : Key) → ((key ≡ q) × (s'.chains q ≡ option_map (with_grant version asked) (s.chains key))) ⊎ ((key ≢ q) × (s'.chains q ≡ s.chains q))
-      cases q = at_key key q (s'.chains q) (option_map (with_grant version asked) (s.chains key)) (s.chains q) (g.lines q)
+      cases q = at_place same_key same_tells key q (s'.chains q) (option_map (with_grant version asked) (s.chains key)) (s.chains q) (g.lines q)
 
-      same : (q : Key) → s'.chains q ≡ s.chains q → opened_with (s'.versions q) (s'.chains q) ≡ opened_with (s.versions q) (s.chains q)
-      same q e = ap (λ x. opened_with (version_at x q) (s'.chains q)) g.store ∙ ap (opened_with (s.versions q)) e
+      same : (q : Key) → s'.chains q ≡ s.chains q → opened_with (version_at s'.shelf.store q) (s'.chains q) ≡ opened_with (version_at s.shelf.store q) (s.chains q)
+      same q e = ap (λ x. opened_with (version_at x q) (s'.chains q)) g.shelf.store ∙ ap (opened_with (version_at s.shelf.store q)) e
 
-      opened : (q : Key) → key ≡ q → opened_with (s.versions q) (s.chains q) ≡ Some c
-      opened q e = ap (λ z. opened_with (s.versions q) (s.chains z)) (sym e) ∙ ap (opened_with (s.versions q)) there ∙ opened_some (s.versions q) c
+      opened : (q : Key) → key ≡ q → opened_with (version_at s.shelf.store q) (s.chains q) ≡ Some c
+      opened q e = ap (λ z. opened_with (version_at s.shelf.store q) (s.chains z)) (sym e) ∙ ap (opened_with (version_at s.shelf.store q)) there ∙ opened_some (version_at s.shelf.store q) c
 
       floor_grant : (b : Bool) → (cond b (marked version stamp (with_request asked c)) (with_request asked c)).floor ≡ c.floor
       floor_grant true = refl
       floor_grant false = refl
 
-      here : (q : Key) (r : Row) → loaded q ≡ Some r → key ≡ q → s'.chains q ≡ option_map (with_grant version asked) (s.chains key) → (b : Bool) → reads mode ≡ b → links_in (opened_with (s'.versions q) (s'.chains q)) ≡ map (link_of (after h who stamp key mode row version bound) q) (kept keep loaded h q)
+      here : (q : Key) (r : Row) → loaded q ≡ Some r → key ≡ q → s'.chains q ≡ option_map (with_grant version asked) (s.chains key) → (b : Bool) → reads mode ≡ b → links_in (opened_with (version_at s'.shelf.store q) (s'.chains q)) ≡ map (link_of (after h who stamp key mode row version bound) q) (kept keep loaded h q)
       here q r e same_key is b f =
           let old_links : c.links ≡ map (link_of h q) (kept keep loaded h q) = sym (ap links_in (opened q same_key)) ∙ k.links q r e in
-          ap links_in (ap (opened_with (s'.versions q)) is ∙ ap (λ z. opened_with (s'.versions q) (option_map (with_grant version asked) z)) there ∙ opened_some (s'.versions q) (with_grant version asked c))
+          ap links_in (ap (opened_with (version_at s'.shelf.store q)) is ∙ ap (λ z. opened_with (version_at s'.shelf.store q) (option_map (with_grant version asked) z)) there ∙ opened_some (version_at s'.shelf.store q) (with_grant version asked c))
           ∙ pick b f old_links
         where
           pick : (b : Bool) → reads mode ≡ b → c.links ≡ map (link_of h q) (kept keep loaded h q) → (with_grant version asked c).links ≡ map (link_of (after h who stamp key mode row version bound) q) (kept keep loaded h q)
@@ -163,13 +164,13 @@ module _ (keep : ℕ) (loaded : Rows) (h : History) (who : Attempt) (stamp : ℕ
       both : Option Chain → List Link × ℕ
       both x = (links_in x, floor_in x)
 
-      virtual : (q : Key) → ◌≡◌ {A = List Link × ℕ} (links_in (opened_with (s'.versions q) (s'.chains q)), floor_in (opened_with (s'.versions q) (s'.chains q))) (links_in (opened_with (s.versions q) (s.chains q)), floor_in (opened_with (s.versions q) (s.chains q)))
+      virtual : (q : Key) → ◌≡◌ {A = List Link × ℕ} (links_in (opened_with (version_at s'.shelf.store q) (s'.chains q)), floor_in (opened_with (version_at s'.shelf.store q) (s'.chains q))) (links_in (opened_with (version_at s.shelf.store q) (s.chains q)), floor_in (opened_with (version_at s.shelf.store q) (s.chains q)))
       virtual q = ⊎_elim
           (λ x.
-          ap both (ap (opened_with (s'.versions q)) x.1 ∙ ap (λ z. opened_with (s'.versions q) (option_map (with_request asked) z)) there ∙ opened_some (s'.versions q) (with_request asked c))
-          ∙ sym (ap both (ap (λ z. opened_with (s.versions q) (s.chains z)) (sym x.0) ∙ ap (opened_with (s.versions q)) there ∙ opened_some (s.versions q) c)))
-          (λ x. ap both (ap (λ y. opened_with (version_at y q) (s'.chains q)) g.store ∙ ap (opened_with (s.versions q)) x.1))
-          (at_key key q (s'.chains q) (option_map (with_request asked) (s.chains key)) (s.chains q) (g.lines q))
+          ap both (ap (opened_with (version_at s'.shelf.store q)) x.1 ∙ ap (λ z. opened_with (version_at s'.shelf.store q) (option_map (with_request asked) z)) there ∙ opened_some (version_at s'.shelf.store q) (with_request asked c))
+          ∙ sym (ap both (ap (λ z. opened_with (version_at s.shelf.store q) (s.chains z)) (sym x.0) ∙ ap (opened_with (version_at s.shelf.store q)) there ∙ opened_some (version_at s.shelf.store q) c)))
+          (λ x. ap both (ap (λ y. opened_with (version_at y q) (s'.chains q)) g.shelf.store ∙ ap (opened_with (version_at s.shelf.store q)) x.1))
+          (at_place same_key same_tells key q (s'.chains q) (option_map (with_request asked) (s.chains key)) (s.chains q) (g.lines q))
 
   pub refused_keeps : (cause : Cause) (s : State) → Keeps keep loaded s h → Keeps keep loaded s (Ask who stamp key mode (Refused cause) ∷ h)
   refused_keeps cause s k = record { links = k.links; floor = k.floor }

@@ -20,4 +20,3 @@ pub mod Closing
 pub mod Calls
 pub mod Fews
 pub mod Asks
-pub mod Outcomes

@@ -1,6 +1,9 @@
 -- Maps and filters of lists.
 use Rattle.std.proofs.Common.{◌≡◌, ℕ, max, ◌<◌, ◌≤◌, List, [], ◌∷◌, map, filter, length, arith, Bool, true, false, true≢false, not, ◌||◌, cond, refl, sym, ap, ap₂, inl, inr}
 use Rattle.std.specs.List.{list_any}
+use Rattle.std.specs.declared.result.Result.{Result}
+use Rattle.std.specs.declared.result.Result.TheVariants.{Ok, Err}
+use Rattle.std.specs.Prelude.{OnErr}
 use Rattle.deneva_base.specs.Lists.{IsIn, greatest_by}
 
 pub map_same : {A B : Type 0} (f g : A → B) (xs : List A) → ((x : A) → IsIn x xs → f x ≡ g x) → map f xs ≡ map g xs
@@ -48,3 +51,7 @@ one_less p (x ∷ xs) e = go (p x) refl e (one_less p xs)
     go : (b : Bool) → p x ≡ b → (b || list_any p xs) ≡ true → (list_any p xs ≡ true → length (filter (λ y. not (p y)) xs) < length xs) → length (cond (not b) (x ∷ filter (λ y. not (p y)) xs) (filter (λ y. not (p y)) xs)) < length (x ∷ xs)
     go true t f rest = let l = fewer p xs in omega (arith, l)
     go false t f rest = let l = rest f in omega (arith, l)
+
+pub err_gives : {X Y : Type 0} (r : Result X Y) {Q : Type 0} → Q → OnErr r Q
+err_gives (Ok x) q = tt
+err_gives (Err e) q = q

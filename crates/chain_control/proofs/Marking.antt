@@ -17,10 +17,10 @@ use Rattle.protocol_rules.proofs.Traced.{asked_found}
 use Rattle.chain_control.specs.declared.requests.Waiter.{Waiter}
 use Rattle.chain_control.specs.declared.links.Link.{Link}
 use Rattle.chain_control.specs.Links.{read_by}
-use Rattle.chain_control.specs.Tables.{same_key}
+use Rattle.key_table.specs.Keys.{same_key}
 use Rattle.chain_control.specs.Standing.{link_of}
 use Rattle.chain_control.proofs.Lists.{greatest_same}
-use Rattle.chain_control.proofs.Places.{same_tells}
+use Rattle.key_table.proofs.Places.{same_tells}
 use Rattle.chain_control.proofs.Apart.{number_eq_sym}
 use Rattle.chain_control.proofs.Tabling.{reads_by}
 use Rattle.chain_control.proofs.Waking.{to_waiter}

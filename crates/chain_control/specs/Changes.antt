@@ -1,5 +1,5 @@
 -- What the calls of a control change.
-use Rattle.std.specs.Prelude.{◌≡◌, ◌⊎◌, ℕ, ◌+◌, ◌≤◌, List, [], ◌∷◌, length, Bool, true, ◌&&◌, ltb, cond, Option, Some, None, option_map}
+use Rattle.std.specs.Prelude.{◌≡◌, ◌⊎◌, ℕ, ◌+◌, List, [], length, Bool, true, ◌&&◌, ltb, cond, Option, Some, None, option_map}
 use Rattle.deneva_base.specs.declared.keys.Key.{Key}
 use Rattle.deneva_base.specs.declared.keys.Mode.{Mode}
 use Rattle.deneva_base.specs.declared.numbers.Attempt.{Attempt}
@@ -7,19 +7,22 @@ use Rattle.deneva_base.specs.declared.numbers.Number.{Number}
 use Rattle.deneva_base.specs.declared.rows.Keyed.{Keyed}
 use Rattle.deneva_base.specs.declared.rows.Cell.{Cell}
 use Rattle.deneva_base.specs.declared.answers.Wake.{Wake}
-use Rattle.deneva_base.specs.Keys.{key_eq, number_lt, loaded_version}
+use Rattle.deneva_base.specs.Keys.{number_lt, loaded_version}
 use Rattle.protocol_rules.specs.Latest.{row_for}
 use Rattle.deneva_base.specs.Modes.{reads}
 use Rattle.row_store.specs.declared.versions.Version.{Version}
-use Rattle.row_store.specs.Stores.{Seen, version_at, newest}
+use Rattle.row_store.specs.Stores.{Seen, version_at}
 use Rattle.chain_control.specs.declared.requests.Request.{Request}
 use Rattle.chain_control.specs.declared.requests.Waiter.{Waiter}
 use Rattle.chain_control.specs.declared.links.Link.{Link}
 use Rattle.chain_control.specs.declared.lines.Lines.{Lines}
 use Rattle.chain_control.specs.declared.table.Table.{Table}
 use Rattle.chain_control.specs.Chains.{Chain, with_request, with_grant}
-use Rattle.chain_control.specs.Tables.{chain_at, opened_in, below_in, changed, key_of, row_key, waiter_key, commits_at, ends_at, wakes_at, trims_at, SetsChain, SameChains}
-use Rattle.chain_control.specs.Holdings.{Holding, holding_at, nothing, with_key, with_rows, SetsHolding, SameHolding}
+use Rattle.chain_control.specs.Tables.{chain_at, opened_in, below_in, key_of, row_key, waiter_key, commits_at, ends_at, wakes_at, trims_at, SetsChain, SameChains}
+use Rattle.key_table.specs.Keys.{same_key}
+use Rattle.key_table.specs.Tables.{changed}
+use Rattle.shelf.specs.Seen.{Held}
+use Rattle.shelf.specs.Shelves.{held, IsFresh, Notes, Promises, MayReserve, Ends}
 
 -- the row and the number of a version, or no cells
 abbrev pub read_of : Option Link → List Cell × Number
@@ -55,11 +58,9 @@ abbrev pub waiting : Request → Option Link → Request
 waiting r best = record { who = r.who; stamp = r.stamp; mode = r.mode; waits = Some (read_of best).1 }
 
 -- a table of this store, on which nothing was called
-pub record IsFresh (s : Seen) (t : Table) : Type 0 where
-  pub store : t.store ≡ s
+pub record IsNew (store : Seen) (t : Table) : Type 0 where
+  pub shelf : IsFresh store t.shelf
   pub lines : (key : Key) → chain_at t.lines key ≡ None
-  pub parts : (who : Attempt) → holding_at t.parts who ≡ nothing
-  pub promised : t.promised ≡ 0
   pub waiting : t.waiting ≡ 0
 
 -- what is kept of a key that has this version
@@ -69,87 +70,58 @@ opened_with (Some v) c = opened_in v c
 
 -- what is kept of the key is there
 pub record Opens (key : Key) (old new : Table) : Type 0 where
-  pub store : new.store ≡ old.store
-  pub lines : SetsChain old.lines key (opened_with (version_at old.store key) (chain_at old.lines key)) new.lines
-  pub parts : new.parts ≡ old.parts
-  pub promised : new.promised ≡ old.promised
+  pub shelf : new.shelf ≡ old.shelf
+  pub lines : SetsChain old.lines key (opened_with (version_at old.shelf.store key) (chain_at old.lines key)) new.lines
   pub waiting : new.waiting ≡ old.waiting
 
 -- nothing has changed
 pub record Stays (old new : Table) : Type 0 where
-  pub store : new.store ≡ old.store
+  pub shelf : new.shelf ≡ old.shelf
   pub lines : SameChains old.lines new.lines
-  pub parts : new.parts ≡ old.parts
-  pub promised : new.promised ≡ old.promised
   pub waiting : new.waiting ≡ old.waiting
 
 -- one more access, granted with the version of this number
 pub record Grants (key : Key) (version : Number) (asked : Request) (old new : Table) : Type 0 where
-  pub store : new.store ≡ old.store
+  pub shelf : Notes asked.who asked.stamp key old.shelf new.shelf
   pub lines : SetsChain old.lines key (option_map (with_grant version asked) (chain_at old.lines key)) new.lines
-  pub parts : SetsHolding old.parts asked.who (with_key key (holding_at old.parts asked.who)) new.parts
-  pub promised : new.promised ≡ old.promised
   pub waiting : new.waiting ≡ old.waiting
 
 -- one more access, which waits
 pub record Waiting (key : Key) (asked : Request) (old new : Table) : Type 0 where
-  pub store : new.store ≡ old.store
+  pub shelf : Notes asked.who asked.stamp key old.shelf new.shelf
   pub lines : SetsChain old.lines key (option_map (with_request asked) (chain_at old.lines key)) new.lines
-  pub parts : SetsHolding old.parts asked.who (with_key key (holding_at old.parts asked.who)) new.parts
-  pub promised : new.promised ≡ old.promised
   pub waiting : new.waiting ≡ old.waiting + 1
 
 -- at most the key is noted
-pub record MayNote (who : Attempt) (key : Key) (old new : Table) : Type 0 where
-  pub store : new.store ≡ old.store
+pub record MayNote (who : Attempt) (stamp : ℕ) (key : Key) (old new : Table) : Type 0 where
+  pub shelf : MayReserve old.shelf new.shelf ⊎ Notes who stamp key old.shelf new.shelf
   pub lines : SameChains old.lines new.lines
-  pub parts : SameHolding old.parts new.parts ⊎ SetsHolding old.parts who (with_key key (holding_at old.parts who)) new.parts
-  pub promised : new.promised ≡ old.promised
   pub waiting : new.waiting ≡ old.waiting
 
--- the attempt's rows are kept, with room for those that it appends
-pub record Promises (who : Attempt) (writes appends : List Keyed) (old new : Table) : Type 0 where
-  pub versions : new.store.versions ≡ old.store.versions
+-- the attempt's rows are kept
+pub record Votes (who : Attempt) (writes appends : List Keyed) (old new : Table) : Type 0 where
+  pub shelf : Promises who writes writes appends old.shelf new.shelf
   pub lines : SameChains old.lines new.lines
-  pub parts : SetsHolding old.parts who (with_rows writes writes appends (holding_at old.parts who)) new.parts
-  pub promised : new.promised ≡ old.promised + length appends
-  pub room : new.promised ≤ new.store.spare
   pub waiting : new.waiting ≡ old.waiting
 
 -- at most the store has more room
-pub record MayReserve (old new : Table) : Type 0 where
-  pub versions : new.store.versions ≡ old.store.versions
+pub record MayVote (old new : Table) : Type 0 where
+  pub shelf : MayReserve old.shelf new.shelf
   pub lines : SameChains old.lines new.lines
-  pub parts : SameHolding old.parts new.parts
-  pub promised : new.promised ≡ old.promised
-  pub room : old.store.spare ≤ new.store.spare
   pub waiting : new.waiting ≡ old.waiting
-
--- what a key has after these rows came under a number
-abbrev pub offered : Number → List Keyed → Key → Option Version → Option Version
-offered number [] key v = v
-offered number (r ∷ rows) key v = offered number rows key (cond (key_eq r.key key) (newest v (record { number = number; row = r.row })) v)
-
--- the version of a key after the attempt ended
-abbrev pub row_left : Option Number → List Keyed → List Keyed → Key → Option Version → Option Version
-row_left None writes appends key v = v
-row_left (Some number) writes appends key v = offered number appends key (offered number writes key v)
 
 -- what is kept of a key after the rows were written under a number
 abbrev pub commits_left : ℕ → Attempt → Option Number → List Keyed → Key → Option Chain → Option Chain
 commits_left keep who None rows key c = c
-commits_left keep who (Some number) rows key c = changed row_key (commits_at keep who number) rows key c
+commits_left keep who (Some number) rows key c = changed same_key row_key (commits_at keep who number) rows key c
 
 -- and after the attempt's requests were taken out, those of the front were granted, and versions were dropped
-abbrev pub chain_left : ℕ → Attempt → Option Number → Holding → List Waiter → Key → Option Chain → Option Chain
+abbrev pub chain_left : ℕ → Attempt → Option Number → Held → List Waiter → Key → Option Chain → Option Chain
 chain_left keep who number p front key c =
-    changed key_of trims_at p.keys key (changed waiter_key wakes_at front key (changed key_of (ends_at who) p.keys key (commits_left keep who number p.versions key c)))
+    changed same_key key_of trims_at p.keys key (changed same_key waiter_key wakes_at front key (changed same_key key_of (ends_at who) p.keys key (commits_left keep who number p.copies key c)))
 
--- the attempt ended
-pub record Ends (keep : ℕ) (who : Attempt) (number : Option Number) (front : List Waiter) (old new : Table) : Type 0 where
-  pub versions : (key : Key) → version_at new.store key ≡ row_left number (holding_at old.parts who).writes (holding_at old.parts who).appends key (version_at old.store key)
-  pub lines : (key : Key) → chain_at new.lines key ≡ chain_left keep who number (holding_at old.parts who) front key (chain_at old.lines key)
-  pub parts : SetsHolding old.parts who nothing new.parts
-  pub promised : new.promised + length (holding_at old.parts who).appends ≡ old.promised
-  pub room : old.store.spare ≤ new.store.spare + length (holding_at old.parts who).appends
+-- the attempt ended, and these requests were granted
+pub record EndsAndWakes (keep : ℕ) (who : Attempt) (number : Option Number) (front : List Waiter) (old new : Table) : Type 0 where
+  pub shelf : Ends who number old.shelf new.shelf
+  pub lines : (key : Key) → chain_at new.lines key ≡ chain_left keep who number (held old.shelf who) front key (chain_at old.lines key)
   pub waiting : new.waiting + length front ≡ old.waiting

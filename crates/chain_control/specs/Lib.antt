@@ -2,7 +2,6 @@ pub mod Requests
 pub mod Links
 pub mod Chains
 pub mod Tables
-pub mod Holdings
 pub mod Changes
 pub mod Kept
 pub mod Standing

@@ -1,41 +1,34 @@
 -- What a table stands for: a history, of which it has for each key the unended accesses, the kept versions and the floor,
 -- and for each attempt its keys and rows.
-use Rattle.std.specs.Prelude.{◌≡◌, ◌⊎◌, ℕ, ◌+◌, ◌<◌, ◌≤◌, List, [], ◌∷◌, map, length, true, cond, ⊤, Option, Some, None, option_map}
+use Rattle.std.specs.Prelude.{◌≡◌, ◌⊎◌, ℕ, ◌<◌, List, [], ◌∷◌, map, length, true, ⊤, Option, Some, None}
 use Rattle.deneva_base.specs.declared.keys.Key.{Key}
-use Rattle.deneva_base.specs.declared.numbers.Attempt.{Attempt}
 use Rattle.deneva_base.specs.Lists.{IsIn}
-use Rattle.deneva_base.specs.Keys.{key_lt}
 use Rattle.deneva_base.specs.Rows.{Row, Rows}
-use Rattle.protocol_rules.specs.History.{History, Asked, Grant, Yea, grants, waits, yeas, IsUnended}
-use Rattle.protocol_rules.specs.Latest.{Version, writes_in, has_ended}
+use Rattle.protocol_rules.specs.History.{History, Asked, Grant, grants, waits, IsUnended}
+use Rattle.protocol_rules.specs.Latest.{Version}
 use Rattle.protocol_rules.specs.Rules.{Obeys}
 use Rattle.protocol_rules.specs.Versions.{below}
 use Rattle.protocol_rules.specs.Mvcc.{floor, top_reader, mvcc}
-use Rattle.row_store.specs.declared.versions.Version.{Version as StoredVersion}
 use Rattle.row_store.specs.Stores.{version_at}
-use Rattle.control_core.specs.Leaving.{last}
-use Rattle.control_core.proofs.Lasts.{appends_in}
 use Rattle.chain_control.specs.declared.requests.Request.{Request}
 use Rattle.chain_control.specs.declared.links.Link.{Link}
 use Rattle.chain_control.specs.declared.table.Table.{Table}
 use Rattle.chain_control.specs.declared.chains.Chains.{Chains}
 use Rattle.chain_control.specs.Chains.{Chain}
 use Rattle.chain_control.specs.Tables.{chain_at}
-use Rattle.chain_control.specs.Holdings.{Holding, holding_at}
+use Rattle.shelf.specs.declared.shelf.Shelf.{Shelf}
+use Rattle.shelf.specs.Keeps.{KeepsRows}
 use Rattle.chain_control.specs.Changes.{opened_with}
 use Rattle.chain_control.specs.Kept.{kept}
 
 -- what is seen of a table
 pub record State : Type 0 where
   pub chains : Key → Option Chain
-  pub holding : Attempt → Holding
-  pub versions : Key → Option StoredVersion
-  pub spare : ℕ
-  pub promised : ℕ
+  pub shelf : Shelf
   pub waiting : ℕ
 
 abbrev pub state_of : Table → State
-state_of t = record { chains = chain_at t.lines; holding = holding_at t.parts; versions = version_at t.store; spare = t.store.spare; promised = t.promised; waiting = t.waiting }
+state_of t = record { chains = chain_at t.lines; shelf = t.shelf; waiting = t.waiting }
 
 abbrev pub requests_in : Option Chain → List Request
 requests_in None = []
@@ -68,33 +61,13 @@ abbrev pub StampsRise : List Request → Type 0
 StampsRise [] = ⊤
 StampsRise (r ∷ rs) = ((x : Request) → IsIn x rs → r.stamp < x.stamp) × StampsRise rs
 
--- in strictly rising order
-abbrev pub Rising : List Key → Type 0
-Rising [] = ⊤
-Rising (k ∷ ks) = ((q : Key) → IsIn q ks → key_lt k q ≡ true) × Rising ks
-
-abbrev pub version_of : StoredVersion → Version
-version_of v = record { number = v.number; row = v.row }
-
--- how many rows are appended by attempts that voted Yes and have not ended
-abbrev pub promised_in : History → List Yea → ℕ
-promised_in h [] = 0
-promised_in h (y ∷ ys) = cond (has_ended h y.who) 0 (length y.appends) + promised_in h ys
-
 -- the table has the accesses and the rows that the history gives
 pub record Tracks (loaded : Rows) (s : State) (h : History) : Type 0 where
   pub owned : (g : Grant) → IsIn g (grants h) → IsUnended h g.who → IsIn (owner_of g) (requests_in (s.chains g.key))
   pub queued : (a : Asked) → IsIn a (waits h) → IsIn (waiter_of loaded h a) (requests_in (s.chains a.key))
   pub real : (key : Key) (r : Request) → IsIn r (requests_in (s.chains key)) → IsOwner h key r ⊎ IsWaiter loaded h key r
   pub stamps_rise : (key : Key) → StampsRise (requests_in (s.chains key))
-  pub noted : (g : Grant) → IsIn g (grants h) → IsUnended h g.who → IsIn g.key (s.holding g.who).keys
-  pub noted_waiter : (a : Asked) → IsIn a (waits h) → IsIn a.key (s.holding a.who).keys
-  pub rising : (who : Attempt) → Rising (s.holding who).keys
-  pub rows : (who : Attempt) → IsUnended h who → ((s.holding who).writes ≡ writes_in (yeas h) who) × ((s.holding who).versions ≡ writes_in (yeas h) who) × ((s.holding who).appends ≡ appends_in (yeas h) who)
-  pub tables : (key : Key) (row : Row) → loaded key ≡ Some row → key.table ≤ 4
-  pub versions : (key : Key) → option_map version_of (s.versions key) ≡ last loaded h key
-  pub promised : s.promised ≡ promised_in h (yeas h)
-  pub room : s.promised ≤ s.spare
+  pub kept : KeepsRows true loaded s.shelf h
   pub waiting : s.waiting ≡ length (waits h)
 
 -- what is kept of a version: the greatest stamp to which it was granted
@@ -112,8 +85,8 @@ floor_in (Some c) = c.floor
 
 -- the table has the kept versions of a loaded key, and its floor
 pub record Keeps (keep : ℕ) (loaded : Rows) (s : State) (h : History) : Type 0 where
-  pub links : (key : Key) (row : Row) → loaded key ≡ Some row → links_in (opened_with (s.versions key) (s.chains key)) ≡ map (link_of h key) (kept keep loaded h key)
-  pub floor : (key : Key) (row : Row) → loaded key ≡ Some row → floor_in (opened_with (s.versions key) (s.chains key)) ≡ floor keep loaded h key
+  pub links : (key : Key) (row : Row) → loaded key ≡ Some row → links_in (opened_with (version_at s.shelf.store key) (s.chains key)) ≡ map (link_of h key) (kept keep loaded h key)
+  pub floor : (key : Key) (row : Row) → loaded key ≡ Some row → floor_in (opened_with (version_at s.shelf.store key) (s.chains key)) ≡ floor keep loaded h key
 
 -- the table stands for a history that obeys the rule with `keep` versions
 pub record Stands (keep : ℕ) (t : Table) (loaded : Rows) (h : History) : Type 0 where

@@ -1,5 +1,5 @@
 -- What the tables have for a key.
-use Rattle.std.specs.Prelude.{◌≡◌, ℕ, List, [], ◌∷◌, ◌++◌, length, Bool, true, false, ◌==◌, ◌&&◌, cond, Option, Some, None, option_map}
+use Rattle.std.specs.Prelude.{◌≡◌, ℕ, List, [], ◌∷◌, ◌++◌, length, Bool, true, false, ◌&&◌, cond, Option, Some, None, option_map}
 use Rattle.std.specs.Map.{lookup}
 use Rattle.deneva_base.specs.declared.keys.Key.{Key}
 use Rattle.deneva_base.specs.declared.numbers.Attempt.{Attempt}
@@ -14,13 +14,10 @@ use Rattle.chain_control.specs.declared.requests.Request.{Request}
 use Rattle.chain_control.specs.declared.requests.Waiter.{Waiter}
 use Rattle.chain_control.specs.declared.links.Link.{Link}
 use Rattle.chain_control.specs.declared.lines.Lines.{Lines}
+use Rattle.key_table.specs.Keys.{same_key}
 use Rattle.chain_control.specs.Requests.{is_stopped, stamp_among}
 use Rattle.chain_control.specs.Links.{link_below}
 use Rattle.chain_control.specs.Chains.{Chain, chain_of, opened, refusal, low_of, committed, without, granted, trimmed, goers}
-
--- the hash table's test of keys
-abbrev pub same_key : Key → Key → Bool
-same_key k q = (k.table == q.table) && ((k.a == q.a) && ((k.b == q.b) && (k.c == q.c)))
 
 abbrev pub chain_at : Lines → Key → Option Chain
 chain_at t key = option_map chain_of (lookup (same_key key) t.lines.entries)
@@ -67,11 +64,6 @@ goers_over ended number rows t (k ∷ ks) = goers_in k ended (new_of number (row
 abbrev pub no_one : {A : Type 0} → List A → Bool
 no_one [] = true
 no_one (x ∷ xs) = false
-
--- what a key has after a change for each of these elements, at the element's key
-abbrev pub changed : {X : Type 0} → (X → Key) → (X → Option Chain → Option Chain) → List X → Key → Option Chain → Option Chain
-changed key f [] at c = c
-changed key f (x ∷ xs) at c = changed key f xs at (cond (same_key (key x) at) (f x c) c)
 
 abbrev pub key_of : Key → Key
 key_of k = k

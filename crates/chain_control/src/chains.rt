@@ -96,7 +96,7 @@ impl<const KEEP: usize> Control for Chains<KEEP> {
     }
 
     fn rows(&self) -> Result<RowList, NoMemory> {
-        self.table.store.rows_in_order()
+        self.table.shelf.rows_in_order()
     }
 
     ghost obeys = { λ s loaded h stands. stands.obeys };

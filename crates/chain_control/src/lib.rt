@@ -5,7 +5,6 @@ mod chains;
 mod line;
 mod lines;
 mod links;
-mod parts;
 mod requests;
 mod table;
 mod threads;

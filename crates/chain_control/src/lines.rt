@@ -4,13 +4,16 @@ ghost use Rattle.protocol_rules.specs.Latest.{row_for};
 ghost use Rattle.deneva_base.specs.Lists.{greatest_by};
 ghost use Rattle.deneva_base.specs.declared.keys.Key.{Key};
 ghost use Rattle.chain_control.specs.Chains.{with_request, with_grant, committed, without, granted, trimmed};
-ghost use Rattle.chain_control.specs.Tables.{chain_at, below_in, refusal_in, stopped_in, stamp_in, kept_in, opened_in, new_of, goers_in, goers_over, changed, key_of, row_key, waiter_key, ends_at, wakes_at, trims_at, commits_at, SetsChain, SameChains, no_one};
+ghost use Rattle.key_table.specs.Keys.{same_key};
+ghost use Rattle.key_table.specs.Tables.{changed};
+ghost use Rattle.chain_control.specs.Tables.{chain_at, below_in, refusal_in, stopped_in, stamp_in, kept_in, opened_in, new_of, goers_in, goers_over, key_of, row_key, waiter_key, ends_at, wakes_at, trims_at, commits_at, SetsChain, SameChains, no_one};
 
 use crate::line::Line;
 use crate::links::Link;
 use crate::requests::{Request, Waiter};
 use deneva_base::{Attempt, Cause, Key, Keyed, NoMemory, Number, Row, RowList};
 use row_store::Version;
+use shelf::find_row;
 use std::alloc::Global;
 use std::collections::HashMap;
 
@@ -18,18 +21,6 @@ use std::collections::HashMap;
 pub(crate) struct Lines {
     alloc: Global,
     lines: HashMap<Key, Line>,
-}
-
-/// The row of a key.
-pub(crate) fn find_row(rows: &[Keyed], key: Key) -> Option<&Row>
-    ensures { option_map (λ r. r.now) result ≡ row_for key rows.now }
-{
-    for keyed in rows {
-        if keyed.key == key {
-            return Some(&keyed.row);
-        }
-    }
-    None
 }
 
 /// The number under which a key is written, where it is.
@@ -199,7 +190,7 @@ impl Lines {
 
     /// Takes out its requests for the keys that it writes.
     pub fn commit_all(&mut self, keep: usize, who: Attempt, number: Number, rows: RowList)
-        ensures { (other : Key) → chain_at self.new other ≡ changed row_key (commits_at keep who number) rows other (chain_at self.old other) }
+        ensures { (other : Key) → chain_at self.new other ≡ changed same_key row_key (commits_at keep who number) rows other (chain_at self.old other) }
     {
         for Keyed { key, row } in rows.into_vec() {
             self.commit(keep, who, number, key, row);
@@ -217,7 +208,7 @@ impl Lines {
 
     /// Takes out its requests for these keys.
     pub fn end_all(&mut self, keys: &[Key], who: Attempt)
-        ensures { (other : Key) → chain_at self.new other ≡ changed key_of (ends_at who) keys.now other (chain_at self.old other) }
+        ensures { (other : Key) → chain_at self.new other ≡ changed same_key key_of (ends_at who) keys.now other (chain_at self.old other) }
     {
         for key in keys {
             self.end(*key, who);
@@ -235,7 +226,7 @@ impl Lines {
 
     /// Grants these requests.
     pub fn wake_all(&mut self, waiters: &[Waiter])
-        ensures { (other : Key) → chain_at self.new other ≡ changed waiter_key wakes_at waiters.now other (chain_at self.old other) }
+        ensures { (other : Key) → chain_at self.new other ≡ changed same_key waiter_key wakes_at waiters.now other (chain_at self.old other) }
     {
         for waiter in waiters {
             self.wake(waiter);
@@ -253,7 +244,7 @@ impl Lines {
 
     /// Drops those of these keys.
     pub fn trim_all(&mut self, keys: &[Key])
-        ensures { (other : Key) → chain_at self.new other ≡ changed key_of trims_at keys.now other (chain_at self.old other) }
+        ensures { (other : Key) → chain_at self.new other ≡ changed same_key key_of trims_at keys.now other (chain_at self.old other) }
     {
         for key in keys {
             self.trim(*key);

@@ -6,30 +6,27 @@ ghost use Rattle.deneva_base.specs.declared.rows.Keyed.{Keyed};
 ghost use Rattle.deneva_base.specs.declared.answers.Answer.TheVariants.{Granted, Waits};
 ghost use Rattle.deneva_base.specs.declared.answers.Vote.TheVariants.{Yes};
 ghost use Rattle.protocol_rules.specs.Latest.{row_for};
-ghost use Rattle.row_store.specs.Stores.{version_at, has};
+ghost use Rattle.row_store.specs.Stores.{has};
 ghost use Rattle.chain_control.specs.Tables.{chain_at, below_in, stamp_in, goers_over, no_one};
-ghost use Rattle.chain_control.specs.Holdings.{holding_at};
-ghost use Rattle.chain_control.specs.Changes.{read_in, read_of, read_after, comes_after, waiting, IsFresh, Opens, Stays, Grants, Waiting, MayNote, Promises, MayReserve, Ends, offered, wake_for};
+ghost use Rattle.shelf.specs.Shelves.{held};
+ghost use Rattle.chain_control.specs.Changes.{read_in, read_of, read_after, comes_after, waiting, IsNew, Opens, Stays, Grants, Waiting, MayNote, Votes, MayVote, EndsAndWakes, wake_for};
 
-use crate::lines::{Lines, find_row};
+use crate::lines::Lines;
 use crate::links::Link;
-use crate::parts::{Part, Parts};
 use crate::requests::{Request, Waiter};
 use control_core::PrepareNoMemory;
 use deneva_base::{
     Answer, Attempt, Key, Keyed, Mode, NoMemory, Number, Row, RowList, TxnId, Vote, Wake, Woken,
 };
 use row_store::Store;
+use shelf::{Ended, Shelf, find_row};
 use std::alloc::Global;
 
-/// The rows, what is kept of each key, and the attempts, with the number of appended rows for which there is room in the
-/// store, and the number of requests that wait.
+/// The rows and what each attempt has here, what is kept of each key, and the number of requests that wait.
 #[derive(Drop)]
 pub(crate) struct Table {
-    pub store: Store,
+    pub shelf: Shelf,
     pub lines: Lines,
-    pub parts: Parts,
-    pub promised: usize,
     pub waiting: usize,
 }
 
@@ -48,14 +45,12 @@ fn share_link(alloc: Global, link: Option<&Link>) -> Result<(Row, Number), NoMem
 
 impl Table {
     pub fn new(store: Store) -> Table
-        ensures { IsFresh store result }
+        ensures { IsNew store result }
     {
         let alloc = store.allocator();
         Table {
-            store,
+            shelf: Shelf::new(store),
             lines: Lines::new(alloc),
-            parts: Parts::new(alloc),
-            promised: 0,
             waiting: 0,
         }
     }
@@ -65,7 +60,7 @@ impl Table {
         ensures ok { OnOk result (Opens key self.old self.new) }
         ensures err { OnErr result (Stays self.old self.new) }
     {
-        match self.store.version(key) {
+        match self.shelf.version(key) {
             Some(version) => self.lines.open(key, version),
             None => Ok(()),
         }
@@ -75,7 +70,7 @@ impl Table {
     fn read(&self, key: Key, stamp: u64, mode: Mode) -> Result<(Row, Number), NoMemory>
         ensures { IfOk result (λ r. r ≡ read_in mode (below_in stamp (chain_at self.now.lines key))) }
     {
-        let alloc = self.store.allocator();
+        let alloc = self.shelf.allocator();
         if mode.is_reading() {
             share_link(alloc, self.lines.below(key, stamp))
         } else {
@@ -87,10 +82,10 @@ impl Table {
     pub fn grant(&mut self, key: Key, asked: Request) -> Result<Answer, NoMemory>
         ensures answer { IfOk result (λ a. a ≡ Granted (read_in asked.mode (below_in asked.stamp (chain_at self.old.lines key))).0 (read_in asked.mode (below_in asked.stamp (chain_at self.old.lines key))).1 0) }
         ensures ok { OnOk result (Grants key (read_in asked.mode (below_in asked.stamp (chain_at self.old.lines key))).1 asked self.old self.new) }
-        ensures err { OnErr result (MayNote asked.who key self.old self.new) }
+        ensures err { OnErr result (MayNote asked.who asked.stamp key self.old self.new) }
     {
         let (row, version) = self.read(key, asked.stamp, asked.mode)?;
-        self.parts.note(asked.who, key)?;
+        self.shelf.note(asked.who, asked.stamp, key)?;
         self.lines.grant(key, version, asked)?;
         Ok(Answer::Granted {
             row,
@@ -114,13 +109,13 @@ impl Table {
         requires few { self.old.waiting < 2 ^ 63 }
         ensures answer { IfOk result (λ a. a ≡ Waits) }
         ensures ok { OnOk result (Waiting key (waiting asked (below_in asked.stamp (chain_at self.old.lines key))) self.old self.new) }
-        ensures err { OnErr result (MayNote asked.who key self.old self.new) }
+        ensures err { OnErr result (MayNote asked.who asked.stamp key self.old self.new) }
     {
         let asked = Request {
             waits: Some(self.version_below(key, asked.stamp)),
             ..asked
         };
-        self.parts.note(asked.who, key)?;
+        self.shelf.note(asked.who, asked.stamp, key)?;
         self.lines.add(key, asked)?;
         self.waiting += 1;
         Ok(Answer::Waits)
@@ -128,12 +123,9 @@ impl Table {
 
     /// The stamp of an attempt.
     fn stamp(&self, who: Attempt) -> u64
-        ensures { result ≡ greatest_by (λ key. stamp_in who (chain_at self.now.lines key)) (holding_at self.now.parts who).keys }
+        ensures { result ≡ greatest_by (λ key. stamp_in who (chain_at self.now.lines key)) (held self.now.shelf who).keys }
     {
-        match self.parts.get(who) {
-            Some(part) => self.lines.stamp_over(&part.keys, who),
-            None => 0,
-        }
+        self.lines.stamp_over(self.shelf.keys(who), who)
     }
 
     /// Votes, and takes the memory for the rows.
@@ -143,23 +135,13 @@ impl Table {
         writes: RowList,
         appends: RowList,
     ) -> Result<Vote, PrepareNoMemory>
-        ensures vote { IfOk result (λ v. v ≡ Yes (greatest_by (λ key. stamp_in who (chain_at self.old.lines key)) (holding_at self.old.parts who).keys) (greatest_by (λ key. stamp_in who (chain_at self.old.lines key)) (holding_at self.old.parts who).keys)) }
-        ensures ok { OnOk result (Promises who writes appends self.old self.new) }
-        ensures err { OnErr result (MayReserve self.old self.new) }
+        ensures vote { IfOk result (λ v. v ≡ Yes (greatest_by (λ key. stamp_in who (chain_at self.old.lines key)) (held self.old.shelf who).keys) (greatest_by (λ key. stamp_in who (chain_at self.old.lines key)) (held self.old.shelf who).keys)) }
+        ensures ok { OnOk result (Votes who writes appends self.old self.new) }
+        ensures err { OnErr result (MayVote self.old self.new) }
         ensures returned { IfErr result (λ e. (e.writes ≡ writes) × (e.appends ≡ appends)) }
     {
         let stamp = self.stamp(who);
-        let Some(promised) = self.promised.checked_add(appends.len()) else {
-            return Err(PrepareNoMemory { writes, appends });
-        };
-        let Ok(versions) = writes.copy(self.store.allocator()) else {
-            return Err(PrepareNoMemory { writes, appends });
-        };
-        if self.store.reserve(promised).is_err() {
-            return Err(PrepareNoMemory { writes, appends });
-        }
-        self.parts.promise(who, writes, versions, appends)?;
-        self.promised = promised;
+        self.shelf.promise_copied(who, writes, appends)?;
         Ok(Vote::Yes {
             lo: stamp,
             hi: stamp,
@@ -168,26 +150,20 @@ impl Table {
 
     /// The requests that wait and are to be granted when an attempt ends, which commits where it has a number.
     fn front(&self, ended: Attempt, number: Option<Number>) -> Result<Vec<Waiter>, NoMemory>
-        ensures { IfOk result (λ front. front.items ≡ goers_over ended number (holding_at self.now.parts ended).writes self.now.lines (holding_at self.now.parts ended).keys) }
+        ensures { IfOk result (λ front. front.items ≡ goers_over ended number (held self.now.shelf ended).writes self.now.lines (held self.now.shelf ended).keys) }
     {
-        match self.parts.get(ended) {
-            Some(part) => self
-                .lines
-                .front(&part.keys, ended, number, part.writes.as_slice()),
-            None => Ok(Vec::new(self.store.allocator())),
-        }
+        let keys = self.shelf.keys(ended);
+        self.lines
+            .front(keys, ended, number, self.shelf.writes(ended))
     }
 
     /// Whether there is none.
     fn is_idle(&self, ended: Attempt, number: Option<Number>) -> bool
-        ensures { result ≡ no_one (goers_over ended number (holding_at self.now.parts ended).writes self.now.lines (holding_at self.now.parts ended).keys) }
+        ensures { result ≡ no_one (goers_over ended number (held self.now.shelf ended).writes self.now.lines (held self.now.shelf ended).keys) }
     {
-        match self.parts.get(ended) {
-            Some(part) => self
-                .lines
-                .is_idle(&part.keys, ended, number, part.writes.as_slice()),
-            None => true,
-        }
+        let keys = self.shelf.keys(ended);
+        self.lines
+            .is_idle(keys, ended, number, self.shelf.writes(ended))
     }
 
     /// Whether the number is above that of the version below the stamp.
@@ -214,7 +190,7 @@ impl Table {
             (Some(number), Some(row)) if self.comes_after(key, stamp, number) => {
                 Ok((row.share()?, number))
             }
-            _ => share_link(self.store.allocator(), self.lines.below(key, stamp)),
+            _ => share_link(self.shelf.allocator(), self.lines.below(key, stamp)),
         }
     }
 
@@ -227,7 +203,7 @@ impl Table {
     ) -> Result<Woken, NoMemory>
         ensures { IfOk result (λ wakes. wakes ≡ map (wake_for self.now.lines number rows.now) front.now) }
     {
-        let mut wakes = Woken::new(self.store.allocator());
+        let mut wakes = Woken::new(self.shelf.allocator());
         for waiter in front {
             let (row, version) = self.read_after(waiter.key, waiter.stamp, number, rows)?;
             wakes.push(Wake {
@@ -248,12 +224,9 @@ impl Table {
         ended: Attempt,
         number: Option<Number>,
     ) -> Result<Woken, NoMemory>
-        ensures { IfOk result (λ wakes. wakes ≡ map (wake_for self.now.lines number (holding_at self.now.parts ended).writes) front.now) }
+        ensures { IfOk result (λ wakes. wakes ≡ map (wake_for self.now.lines number (held self.now.shelf ended).writes) front.now) }
     {
-        match self.parts.get(ended) {
-            Some(part) => self.wakes_of(front, number, part.writes.as_slice()),
-            None => self.wakes_of(front, number, &[]),
-        }
+        self.wakes_of(front, number, self.shelf.writes(ended))
     }
 
     /// Ends an attempt, which commits where it has a number, and grants who waited for it: their wakes are put at the end
@@ -266,15 +239,15 @@ impl Table {
         number: Option<Number>,
         woken: &mut Woken,
     ) -> Result<(), NoMemory>
-        requires present { (w : Keyed) → IsIn w (holding_at self.old.parts who).writes → has self.old.store w.key ≡ true }
-        requires promised { length (holding_at self.old.parts who).appends ≤ self.old.promised }
-        requires room { self.old.promised ≤ self.old.store.spare }
-        requires few { length (goers_over who number (holding_at self.old.parts who).writes self.old.lines (holding_at self.old.parts who).keys) ≤ self.old.waiting }
-        ensures woken { OnOk result (woken.new ≡ woken.old ++ map (wake_for self.old.lines number (holding_at self.old.parts who).writes) (goers_over who number (holding_at self.old.parts who).writes self.old.lines (holding_at self.old.parts who).keys)) }
-        ensures ok { OnOk result (Ends keep who number (goers_over who number (holding_at self.old.parts who).writes self.old.lines (holding_at self.old.parts who).keys) self.old self.new) }
+        requires present { (w : Keyed) → IsIn w (held self.old.shelf who).writes → has self.old.shelf.store w.key ≡ true }
+        requires promised { length (held self.old.shelf who).appends ≤ self.old.shelf.promised }
+        requires room { self.old.shelf.promised ≤ self.old.shelf.store.spare }
+        requires few { length (goers_over who number (held self.old.shelf who).writes self.old.lines (held self.old.shelf who).keys) ≤ self.old.waiting }
+        ensures woken { OnOk result (woken.new ≡ woken.old ++ map (wake_for self.old.lines number (held self.old.shelf who).writes) (goers_over who number (held self.old.shelf who).writes self.old.lines (held self.old.shelf who).keys)) }
+        ensures ok { OnOk result (EndsAndWakes keep who number (goers_over who number (held self.old.shelf who).writes self.old.lines (held self.old.shelf who).keys) self.old self.new) }
         ensures err { OnErr result (self.new ≡ self.old) }
         ensures same_woken { OnErr result (woken.new ≡ woken.old) }
-        ensures idle { goers_over who number (holding_at self.old.parts who).writes self.old.lines (holding_at self.old.parts who).keys ≡ [] → IsOk result }
+        ensures idle { goers_over who number (held self.old.shelf who).writes self.old.lines (held self.old.shelf who).keys ≡ [] → IsOk result }
     {
         if self.is_idle(who, number) {
             self.end(keep, who, number, &[]);
@@ -287,52 +260,22 @@ impl Table {
         Ok(())
     }
 
-    /// Ends an attempt, which commits where it has a number: its rows are written, its requests are taken out, those that
+    /// Ends an attempt, which commits if it has a number: its rows are written, its requests are taken out, those that
     /// waited for it are granted, and versions that are no longer kept are dropped.
     fn end(&mut self, keep: usize, who: Attempt, number: Option<Number>, front: &[Waiter])
-        requires present { (w : Keyed) → IsIn w (holding_at self.old.parts who).writes → has self.old.store w.key ≡ true }
-        requires promised { length (holding_at self.old.parts who).appends ≤ self.old.promised }
-        requires room { self.old.promised ≤ self.old.store.spare }
+        requires present { (w : Keyed) → IsIn w (held self.old.shelf who).writes → has self.old.shelf.store w.key ≡ true }
+        requires promised { length (held self.old.shelf who).appends ≤ self.old.shelf.promised }
+        requires room { self.old.shelf.promised ≤ self.old.shelf.store.spare }
         requires few { length front.now ≤ self.old.waiting }
-        ensures { Ends keep who number front.now self.old self.new }
+        ensures { EndsAndWakes keep who number front.now self.old self.new }
     {
-        let Part {
-            keys,
-            writes,
-            versions,
-            appends,
-        } = self.parts.take(who);
-        self.promised -= appends.len();
+        let Ended { keys, copies } = self.shelf.end(who, number);
         self.waiting -= front.len();
         if let Some(number) = number {
-            write_rows(&mut self.store, number, writes);
-            append_rows(&mut self.store, number, appends);
-            self.lines.commit_all(keep, who, number, versions);
+            self.lines.commit_all(keep, who, number, copies);
         }
         self.lines.end_all(&keys, who);
         self.lines.wake_all(front);
         self.lines.trim_all(&keys);
-    }
-}
-
-/// Writes rows whose keys are present.
-fn write_rows(store: &mut Store, number: Number, rows: RowList)
-    requires present { (w : Keyed) → IsIn w rows → has store.old w.key ≡ true }
-    ensures versions { (key : Key) → version_at store.new key ≡ offered number rows key (version_at store.old key) }
-    ensures spare { store.new.spare ≡ store.old.spare }
-{
-    for Keyed { key, row } in rows.into_vec() {
-        store.put_at(key, number, row);
-    }
-}
-
-/// Appends rows, for which there is room.
-fn append_rows(store: &mut Store, number: Number, rows: RowList)
-    requires room { length rows ≤ store.old.spare }
-    ensures versions { (key : Key) → version_at store.new key ≡ offered number rows key (version_at store.old key) }
-    ensures spare { store.old.spare ≤ store.new.spare + length rows }
-{
-    for Keyed { key, row } in rows.into_vec() {
-        store.append(key, number, row);
     }
 }

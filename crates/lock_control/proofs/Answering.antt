@@ -1,36 +1,28 @@
 -- What the table answers is what the rules say.
-use Rattle.std.proofs.Common.{◌≡◌, ◌⊎◌, ℕ, ltb, ◌≤◌, ◌<◌, List, [], ◌∷◌, Bool, true, false, not, ◌&&◌, ◌||◌, cond, refl, sym, ap, ap₂, ◌∙◌, subst, inl, inr, ⊎_elim, arith, Option, Some, None, option_map, true≢false}
+use Rattle.std.proofs.Common.{◌≡◌, ◌⊎◌, ℕ, ltb, ◌<◌, List, [], ◌∷◌, Bool, true, false, not, ◌&&◌, ◌||◌, cond, refl, sym, ap, ap₂, ◌∙◌, subst, inl, inr, ⊎_elim, arith, Option, Some, None, true≢false}
 use Rattle.std.proofs.lemmas.Bool.Decides.{nat_tests}
-use Rattle.std.specs.Prelude.{is_some}
-use Rattle.deneva_base.specs.declared.keys.Key.{Key}
-use Rattle.deneva_base.specs.declared.keys.Mode.{Mode}
 use Rattle.deneva_base.specs.declared.numbers.Attempt.{Attempt}
-use Rattle.deneva_base.specs.declared.numbers.Number.{Number}
-use Rattle.deneva_base.specs.declared.rows.Keyed.{Keyed}
 use Rattle.deneva_base.specs.Lists.{IsIn}
-use Rattle.deneva_base.specs.Rows.{Row, Rows}
-use Rattle.deneva_base.specs.Keys.{key_eq, attempt_eq, attempt_lt, loaded_version}
-use Rattle.deneva_base.specs.Modes.{reads, writes}
-use Rattle.protocol_rules.specs.History.{History, Asked, Grant, grants, yeas, IsUnended, Conflict}
-use Rattle.protocol_rules.specs.Latest.{Version, latest, seen}
+use Rattle.deneva_base.specs.Rows.{Rows}
+use Rattle.deneva_base.specs.Keys.{key_eq, attempt_eq, attempt_lt}
+use Rattle.deneva_base.specs.Modes.{writes}
+use Rattle.protocol_rules.specs.History.{History, Asked, Grant, grants, IsUnended, Conflict}
 use Rattle.protocol_rules.specs.Locks.{least}
-use Rattle.protocol_rules.specs.Rules.{Rule, Obeys}
 use Rattle.deneva_base.proofs.Membership.{key_decides, attempt_decides, and_true, and_parts}
-use Rattle.protocol_rules.proofs.Sound.{Sound, writes_found}
+use Rattle.protocol_rules.proofs.Sound.{Sound}
 use Rattle.protocol_rules.proofs.Known.{Known}
 use Rattle.protocol_rules.proofs.Traced.{Traced}
 use Rattle.protocol_rules.proofs.Locks.{conflict_decides}
 use Rattle.protocol_rules.proofs.Queues.{least_in, least_below}
-use Rattle.row_store.specs.declared.versions.Version.{Version as StoredVersion}
-use Rattle.row_store.specs.Stores.{Seen, version_at, row_in}
+use Rattle.row_store.specs.Stores.{Seen, row_in}
 use Rattle.control_core.specs.Leaving.{IsLoadedStore}
-use Rattle.control_core.proofs.Lasts.{last_latest}
 use Rattle.lock_control.specs.declared.requests.Request.{Request}
 use Rattle.lock_control.specs.declared.table.Table.{Table}
 use Rattle.lock_control.specs.Requests.{conflicting, bars, lesser, least_bar}
-use Rattle.lock_control.specs.Tables.{Locks, Holding}
-use Rattle.lock_control.specs.Changes.{IsFresh, read_in}
-use Rattle.lock_control.specs.Standing.{State, state_of, owner_of, IsOwner, IsWaiter, Falling, Rising, Tracks, version_of}
+use Rattle.lock_control.specs.Seen.{Locks}
+use Rattle.lock_control.specs.Changes.{IsNew}
+use Rattle.lock_control.specs.Standing.{State, state_of, owner_of, IsOwner, IsWaiter, Falling, Tracks}
+use Rattle.shelf.proofs.Keeps.{keeps_fresh}
 
 -- the order of attempts
 
@@ -109,23 +101,6 @@ nil_of : {A : Type 0} (xs : List A) → ((x : A) → IsIn x xs → ⊥) → xs �
 nil_of [] n = refl
 nil_of (x ∷ xs) n = absurd (n x (inl refl))
 
--- what an access reads
-
-pub read_is : (mode : Mode) (v : Option StoredVersion) (l : Version) → option_map version_of v ≡ Some l → ((read_in mode v).0 ≡ (seen mode l).row) × ((read_in mode v).1 ≡ (seen mode l).number)
-read_is mode None l e = absurd (cc e)
-read_is mode (Some v) l e = subst (λ x. ((read_in mode (Some v)).0 ≡ (seen mode x).row) × ((read_in mode (Some v)).1 ≡ (seen mode x).number)) (one e) (go (reads mode))
-  where
-    one : Some (version_of v) ≡ Some l → version_of v ≡ l
-    one s = ap (λ o. get o) s
-      where
-        get : Option Version → Version
-        get None = l
-        get (Some x) = x
-
-    go : (b : Bool) → ((cond {A = Row × Number} b (v.row, v.number) ([], loaded_version)).0 ≡ (cond b (version_of v) (record { number = loaded_version; row = [] })).row) × ((cond {A = Row × Number} b (v.row, v.number) ([], loaded_version)).1 ≡ (cond b (version_of v) (record { number = loaded_version; row = [] })).number)
-    go true = (refl, refl)
-    go false = (refl, refl)
-
 module _ (loaded : Rows) (h : History) (known : Known loaded h) (sound : Sound loaded h) (traced : Traced h) (s : State) (t : Tracks loaded s h) where
   -- a conflicting owner of smaller stamp bars, and whoever bars is one
   pub bar_of : (a : Asked) (asked : Request) (below : ℕ) (g : Grant) → asked.who ≡ a.who → asked.mode ≡ a.mode → IsIn g (grants h) → IsUnended h g.who → Conflict g.who g.key g.mode a.who a.key a.mode → g.stamp < below → IsIn (owner_of g) (s.locks a.key).requests × (bars asked below (owner_of g) ≡ true)
@@ -176,25 +151,8 @@ module _ (loaded : Rows) (h : History) (known : Known loaded h) (sound : Sound l
             let who : (least g rest).who ≡ o.0.who = one_attempt (least g rest).who o.0.who (ap (λ (z : Request). attempt_lt (least g rest).who z.who) (sym o.5) ∙ one) two in
             (g, rest, is, o.5 ∙ ap owner_of (sym (traced.one (least g rest) o.0 of.0 o.1 who (of.2.0 ∙ sym o.3.0))))
 
-  -- the version of a loaded key
-  pub version_is : (rule : Rule) (key : Key) (row : Row) → Obeys loaded rule h → loaded key ≡ Some row → option_map version_of (s.versions key) ≡ Some (latest loaded h key)
-  version_is rule key row o e = t.versions key ∙ last_latest loaded rule h key row o e (t.tables key row e)
-
-  -- the key of a row that is to be committed is present
-  pub is_present : (rule : Rule) (who : Attempt) (w : Keyed) → Obeys loaded rule h → IsUnended h who → IsIn w (s.holding who).writes → is_some (s.versions w.key) ≡ true
-  is_present rule who w o u i =
-      let y = writes_found (yeas h) who w (subst (λ l. IsIn w l) (t.rows who u).0 i) in
-      let g = sound.holds y.0 w y.2 y.3 in
-      let a = traced.asked g.0 g.1 in
-      let row = known.here a.0 a.1 in
-      some (s.versions w.key) (version_is rule w.key row.0 o (subst (λ k. loaded k ≡ Some row.0) (a.3 ∙ g.3) row.1))
-    where
-      some : (v : Option StoredVersion) → option_map version_of v ≡ Some (latest loaded h w.key) → is_some v ≡ true
-      some None e = absurd (cc e)
-      some (Some v) e = refl
-
 -- a table on which nothing was called
-pub fresh_tracks : (store : Seen) (t : Table) → IsFresh store t → IsLoadedStore store → Tracks (row_in store) (state_of t) []
+pub fresh_tracks : (store : Seen) (t : Table) → IsNew store t → IsLoadedStore store → Tracks (row_in store) (state_of t) []
 fresh_tracks store t f l = record {
   owned = λ g i u. absurd i;
   queued = λ a i. absurd i;
@@ -202,21 +160,6 @@ fresh_tracks store t f l = record {
   falling = λ k. subst (λ (z : Locks). Falling z.requests) (sym (f.locks k)) tt;
   accessed = λ k. record { over = λ g d i j e k' p. absurd i; from = inl (ap (λ (z : Locks). z.accessed) (f.locks k)) };
   written = λ k. record { over = λ g d i j e k' p. absurd i; from = inl (ap (λ (z : Locks). z.written) (f.locks k)) };
-  noted = λ g i u. absurd i;
-  noted_waiter = λ a i. absurd i;
-  rising = λ w. subst (λ (z : Holding). Rising z.keys) (sym (f.parts w)) tt;
-  rows = λ w u. (ap (λ (z : Holding). z.writes) (f.parts w), ap (λ (z : Holding). z.appends) (f.parts w));
-  tables = λ k row e. tables k (version_at store k) refl row e;
-  versions = λ k. ap (λ x. option_map version_of (version_at x k)) f.store ∙ start k (version_at store k) refl;
-  promised = f.promised;
-  room = omega (arith, f.promised);
+  kept = keeps_fresh false f.shelf l;
   waiting = f.waiting;
 }
-  where
-    tables : (k : Key) (v : Option StoredVersion) → version_at store k ≡ v → (row : Row) → option_map (λ (x : StoredVersion). x.row) (version_at store k) ≡ Some row → k.table ≤ 4
-    tables k None is row e = absurd (cc (ap (option_map (λ (x : StoredVersion). x.row)) (sym is) ∙ e))
-    tables k (Some v) is row e = (l k v is).1
-
-    start : (k : Key) (v : Option StoredVersion) → version_at store k ≡ v → option_map version_of (version_at store k) ≡ option_map (λ row. record { number = loaded_version; row = row }) (option_map (λ (x : StoredVersion). x.row) (version_at store k))
-    start k None is = rw is refl
-    start k (Some v) is = rw is (ap (λ n. Some (record { number = n; row = v.row })) (l k v is).0)

@@ -1,5 +1,5 @@
 -- The table tracks the history with one more Ask.
-use Rattle.std.proofs.Common.{◌≡◌, ◌≢◌, ◌⊎◌, ℕ, ◌≤◌, ◌+◌, ◌∷◌, Bool, true, false, cond, refl, sym, ap, ◌∙◌, subst, inl, inr, ⊎_elim, arith, option_map}
+use Rattle.std.proofs.Common.{◌≡◌, ◌≢◌, ◌⊎◌, ℕ, ◌≤◌, ◌+◌, ◌∷◌, Bool, true, false, cond, refl, sym, ap, ◌∙◌, subst, inl, inr, ⊎_elim, arith}
 use Rattle.deneva_base.specs.declared.keys.Key.{Key}
 use Rattle.deneva_base.specs.declared.keys.Mode.{Mode}
 use Rattle.deneva_base.specs.declared.numbers.Attempt.{Attempt}
@@ -10,20 +10,21 @@ use Rattle.deneva_base.specs.Lists.{IsIn}
 use Rattle.deneva_base.specs.Rows.{Row, Rows}
 use Rattle.protocol_rules.specs.Conditions.{MayAsk}
 use Rattle.deneva_base.specs.Modes.{writes}
-use Rattle.row_store.specs.Stores.{version_at}
 use Rattle.protocol_rules.specs.History.{Ask, History, Asked, Grant, Decided, asks, grants, decided, ended, IsUnended}
 use Rattle.protocol_rules.proofs.Sound.{Sound}
 use Rattle.protocol_rules.proofs.Known.{Known}
 use Rattle.protocol_rules.proofs.Traced.{Traced}
 use Rattle.lock_control.specs.declared.requests.Request.{Request}
 use Rattle.lock_control.specs.declared.table.Table.{Table}
-use Rattle.lock_control.specs.Tables.{Locks, Holding, same_key, with_request, with_key}
+use Rattle.lock_control.specs.Seen.{Locks}
+use Rattle.lock_control.specs.Locks.{with_request}
+use Rattle.key_table.specs.Keys.{same_key}
+use Rattle.shelf.specs.Shelves.{Notes}
+use Rattle.shelf.proofs.Keeps.{keeps_granted, keeps_waiting, keeps_refused}
 use Rattle.lock_control.specs.Changes.{Adds}
-use Rattle.lock_control.specs.Standing.{State, state_of, owner_of, waiter_of, IsOwner, IsWaiter, IsTop, any_mode, Falling, Rising, Tracks, version_of}
-use Rattle.lock_control.proofs.Places.{same_tells}
-use Rattle.lock_control.proofs.Puts.{put_in, in_put, falling_put, key_in_put, rising_put}
-use Rattle.deneva_base.specs.Keys.{attempt_eq}
-use Rattle.deneva_base.proofs.Membership.{attempt_tells}
+use Rattle.lock_control.specs.Standing.{State, state_of, owner_of, waiter_of, IsOwner, IsWaiter, IsTop, any_mode, Falling, Tracks}
+use Rattle.key_table.proofs.Places.{same_tells, same_self, at_place}
+use Rattle.lock_control.proofs.Puts.{put_in, in_put, falling_put}
 
 -- what one more request gives
 pub record Grew (key : Key) (r : Request) (s s' : State) : Type 0 where
@@ -33,87 +34,31 @@ pub record Grew (key : Key) (r : Request) (s s' : State) : Type 0 where
   pub falling : (k : Key) → Falling (s.locks k).requests → ((x : Request) → IsIn x (s.locks key).requests → x.stamp ≢ r.stamp) → Falling (s'.locks k).requests
   pub accessed : (k : Key) → (s'.locks k).accessed ≡ (s.locks k).accessed
   pub written : (k : Key) → (s'.locks k).written ≡ (s.locks k).written
-  pub keys : (w : Attempt) (k : Key) → IsIn k (s.holding w).keys → IsIn k (s'.holding w).keys
-  pub mine : IsIn key (s'.holding r.who).keys
-  pub rising : (w : Attempt) → Rising (s.holding w).keys → Rising (s'.holding w).keys
-  pub writes : (w : Attempt) → (s'.holding w).writes ≡ (s.holding w).writes
-  pub appends : (w : Attempt) → (s'.holding w).appends ≡ (s.holding w).appends
-  pub versions : (k : Key) → s'.versions k ≡ s.versions k
-  pub promised : s'.promised ≡ s.promised
-  pub spare : s'.spare ≡ s.spare
-
-same_refl : (k : Key) → same_key k k ≡ true
-same_refl k = ⊎_elim (λ t. t.0) (λ f. absurd (f.1 refl)) (same_tells k k)
-
-attempt_refl : (w : Attempt) → attempt_eq w w ≡ true
-attempt_refl w = ⊎_elim (λ t. t.0) (λ f. absurd (f.1 refl)) (attempt_tells w w)
-
--- at the key and elsewhere
-pub at_key : (key k : Key) (l a b : Locks) → l ≡ cond (same_key key k) a b → ((key ≡ k) × (l ≡ a)) ⊎ (l ≡ b)
-at_key key k l a b e = ⊎_elim (λ t. inl (t.1, e ∙ ap (λ x. cond x a b) t.0)) (λ f. inr (e ∙ ap (λ x. cond x a b) f.0)) (same_tells key k)
-
-pub at_who : (who w : Attempt) (l a b : Holding) → l ≡ cond (attempt_eq who w) a b → ((who ≡ w) × (l ≡ a)) ⊎ (l ≡ b)
-at_who who w l a b e = ⊎_elim (λ t. inl (t.1, e ∙ ap (λ x. cond x a b) t.0)) (λ f. inr (e ∙ ap (λ x. cond x a b) f.0)) (attempt_tells who w)
-
--- the keys of one attempt with one more
-pub record Noted (who : Attempt) (key : Key) (s s' : State) : Type 0 where
-  pub keys : (w : Attempt) (k : Key) → IsIn k (s.holding w).keys → IsIn k (s'.holding w).keys
-  pub rising : (w : Attempt) → Rising (s.holding w).keys → Rising (s'.holding w).keys
-  pub writes : (w : Attempt) → (s'.holding w).writes ≡ (s.holding w).writes
-  pub appends : (w : Attempt) → (s'.holding w).appends ≡ (s.holding w).appends
-
-pub noted : (who : Attempt) (key : Key) (s s' : State) → ((w : Attempt) → s'.holding w ≡ cond (attempt_eq who w) (with_key key (s.holding who)) (s.holding w)) → Noted who key s s'
-noted who key s s' h = record {
-  keys = λ w k i. ⊎_elim
-      (λ t. subst (λ (p : Holding). IsIn k p.keys) (sym t.1) (key_in_put key k (s.holding who).keys (inr (subst (λ q. IsIn k (s.holding q).keys) (sym t.0) i))))
-      (λ e. subst (λ (p : Holding). IsIn k p.keys) (sym e) i)
-      (at_who who w (s'.holding w) (with_key key (s.holding who)) (s.holding w) (h w));
-  rising = λ w f. ⊎_elim
-      (λ t. subst (λ (p : Holding). Rising p.keys) (sym t.1) (rising_put key (s.holding who).keys (subst (λ q. Rising (s.holding q).keys) (sym t.0) f)))
-      (λ e. subst (λ (p : Holding). Rising p.keys) (sym e) f)
-      (at_who who w (s'.holding w) (with_key key (s.holding who)) (s.holding w) (h w));
-  writes = λ w. ⊎_elim
-      (λ t. ap (λ (p : Holding). p.writes) t.1 ∙ ap (λ q. (s.holding q).writes) t.0)
-      (λ e. ap (λ (p : Holding). p.writes) e)
-      (at_who who w (s'.holding w) (with_key key (s.holding who)) (s.holding w) (h w));
-  appends = λ w. ⊎_elim
-      (λ t. ap (λ (p : Holding). p.appends) t.1 ∙ ap (λ q. (s.holding q).appends) t.0)
-      (λ e. ap (λ (p : Holding). p.appends) e)
-      (at_who who w (s'.holding w) (with_key key (s.holding who)) (s.holding w) (h w));
-}
+  pub notes : Notes r.who r.stamp key s.shelf s'.shelf
 
 pub grew : (key : Key) (r : Request) (n : ℕ) (old new : Table) → Adds key r n old new → Grew key r (state_of old) (state_of new)
 grew key r n old new c =
     let s : State = state_of old in
     let s' : State = state_of new in
-    let p = noted r.who key s s' c.parts in
-    let cases : (k : Key) → ((key ≡ k) × (s'.locks k ≡ with_request r (s.locks key))) ⊎ (s'.locks k ≡ s.locks k) = λ k. at_key key k (s'.locks k) (with_request r (s.locks key)) (s.locks k) (c.locks k) in
-    let here : s'.locks key ≡ with_request r (s.locks key) = c.locks key ∙ ap (λ x. cond x (with_request r (s.locks key)) (s.locks key)) (same_refl key) in
-    let mine : s'.holding r.who ≡ with_key key (s.holding r.who) = c.parts r.who ∙ ap (λ x. cond x (with_key key (s.holding r.who)) (s.holding r.who)) (attempt_refl r.who) in
+    let cases = λ (k : Key). at_place same_key same_tells key k (s'.locks k) (with_request r (s.locks key)) (s.locks k) (c.locks k) in
+    let here : s'.locks key ≡ with_request r (s.locks key) = c.locks key ∙ ap (λ x. cond x (with_request r (s.locks key)) (s.locks key)) (same_self same_key same_tells key) in
     record {
       more = λ k x i. ⊎_elim
           (λ t. subst (λ (l : Locks). IsIn x l.requests) (sym t.1) (in_put r x (s.locks key).requests (inr (subst (λ q. IsIn x (s.locks q).requests) (sym t.0) i))))
-          (λ e. subst (λ (l : Locks). IsIn x l.requests) (sym e) i)
+          (λ f. subst (λ (l : Locks). IsIn x l.requests) (sym f.1) i)
           (cases k);
       new = subst (λ (l : Locks). IsIn r l.requests) (sym here) (in_put r r (s.locks key).requests (inl refl));
       only = λ k x i. ⊎_elim
           (λ t. ⊎_elim (λ e. inl (e, t.0)) (λ j. inr (subst (λ q. IsIn x (s.locks q).requests) t.0 j)) (put_in r x (s.locks key).requests (subst (λ (l : Locks). IsIn x l.requests) t.1 i)))
-          (λ e. inr (subst (λ (l : Locks). IsIn x l.requests) e i))
+          (λ f. inr (subst (λ (l : Locks). IsIn x l.requests) f.1 i))
           (cases k);
-      falling = λ k f apart. ⊎_elim
-          (λ t. subst (λ (l : Locks). Falling l.requests) (sym t.1) (falling_put r (s.locks key).requests (subst (λ q. Falling (s.locks q).requests) (sym t.0) f) apart))
-          (λ e. subst (λ (l : Locks). Falling l.requests) (sym e) f)
+      falling = λ k o apart. ⊎_elim
+          (λ t. subst (λ (l : Locks). Falling l.requests) (sym t.1) (falling_put r (s.locks key).requests (subst (λ q. Falling (s.locks q).requests) (sym t.0) o) apart))
+          (λ f. subst (λ (l : Locks). Falling l.requests) (sym f.1) o)
           (cases k);
-      accessed = λ k. ⊎_elim (λ t. ap (λ (l : Locks). l.accessed) t.1 ∙ ap (λ q. (s.locks q).accessed) t.0) (λ e. ap (λ (l : Locks). l.accessed) e) (cases k);
-      written = λ k. ⊎_elim (λ t. ap (λ (l : Locks). l.written) t.1 ∙ ap (λ q. (s.locks q).written) t.0) (λ e. ap (λ (l : Locks). l.written) e) (cases k);
-      keys = p.keys;
-      mine = subst (λ (l : Holding). IsIn key l.keys) (sym mine) (key_in_put key key (s.holding r.who).keys (inl refl));
-      rising = p.rising;
-      writes = p.writes;
-      appends = p.appends;
-      versions = λ k. ap (λ x. version_at x k) c.store;
-      promised = c.promised;
-      spare = ap (λ x. x.spare) c.store;
+      accessed = λ k. ⊎_elim (λ t. ap (λ (l : Locks). l.accessed) t.1 ∙ ap (λ q. (s.locks q).accessed) t.0) (λ f. ap (λ (l : Locks). l.accessed) f.1) (cases k);
+      written = λ k. ⊎_elim (λ t. ap (λ (l : Locks). l.written) t.1 ∙ ap (λ q. (s.locks q).written) t.0) (λ f. ap (λ (l : Locks). l.written) f.1) (cases k);
+      notes = c.shelf;
     }
 
 -- a top stays where no grant of a committed attempt is new
@@ -153,14 +98,7 @@ module _ (loaded : Rows) (h : History) (known : Known loaded h) (sound : Sound l
         falling = λ k. g.falling k (t.falling k) (request_apart s t);
         accessed = λ k. top_stays h (Ask who stamp key mode (Granted row version bound) ∷ h) k any_mode (s.locks k).accessed (s'.locks k).accessed (g.accessed k) refl (λ x i. inr i) less (t.accessed k);
         written = λ k. top_stays h (Ask who stamp key mode (Granted row version bound) ∷ h) k writes (s.locks k).written (s'.locks k).written (g.written k) refl (λ x i. inr i) less (t.written k);
-        noted = λ x i u. ⊎_elim (λ e. subst (λ (z : Grant). IsIn z.key (s'.holding z.who).keys) (sym e) g.mine) (λ j. g.keys x.who x.key (t.noted x j u)) i;
-        noted_waiter = λ a i. g.keys a.who a.key (t.noted_waiter a i);
-        rising = λ x. g.rising x (t.rising x);
-        rows = λ x u. let o = t.rows x u in (g.writes x ∙ o.0, g.appends x ∙ o.1);
-        tables = t.tables;
-        versions = λ k. ap (option_map version_of) (g.versions k) ∙ t.versions k;
-        promised = g.promised ∙ t.promised;
-        room = omega (arith, t.room, g.promised, g.spare);
+        kept = keeps_granted t.kept g.notes;
         waiting = w ∙ t.waiting;
       }
 
@@ -181,14 +119,7 @@ module _ (loaded : Rows) (h : History) (known : Known loaded h) (sound : Sound l
         falling = λ k. g.falling k (t.falling k) (request_apart s t);
         accessed = λ k. top_stays h (Ask who stamp key mode Waits ∷ h) k any_mode (s.locks k).accessed (s'.locks k).accessed (g.accessed k) refl (λ x i. i) (λ x d i j e. i) (t.accessed k);
         written = λ k. top_stays h (Ask who stamp key mode Waits ∷ h) k writes (s.locks k).written (s'.locks k).written (g.written k) refl (λ x i. i) (λ x d i j e. i) (t.written k);
-        noted = λ x i u. g.keys x.who x.key (t.noted x i u);
-        noted_waiter = λ a i. ⊎_elim (λ e. subst (λ (z : Asked). IsIn z.key (s'.holding z.who).keys) (sym e) g.mine) (λ j. g.keys a.who a.key (t.noted_waiter a j)) i;
-        rising = λ x. g.rising x (t.rising x);
-        rows = λ x u. let o = t.rows x u in (g.writes x ∙ o.0, g.appends x ∙ o.1);
-        tables = t.tables;
-        versions = λ k. ap (option_map version_of) (g.versions k) ∙ t.versions k;
-        promised = g.promised ∙ t.promised;
-        room = omega (arith, t.room, g.promised, g.spare);
+        kept = keeps_waiting t.kept g.notes;
         waiting = let e = t.waiting in omega (arith, w, e);
       }
 
@@ -204,13 +135,6 @@ module _ (loaded : Rows) (h : History) (known : Known loaded h) (sound : Sound l
     falling = t.falling;
     accessed = λ k. record { over = (t.accessed k).over; from = (t.accessed k).from };
     written = λ k. record { over = (t.written k).over; from = (t.written k).from };
-    noted = t.noted;
-    noted_waiter = t.noted_waiter;
-    rising = t.rising;
-    rows = t.rows;
-    tables = t.tables;
-    versions = t.versions;
-    promised = t.promised;
-    room = t.room;
+    kept = keeps_refused t.kept;
     waiting = t.waiting;
   }

@@ -1,5 +1,5 @@
 -- The table tracks the history with one more Commit or Abort that wakes nobody.
-use Rattle.std.proofs.Common.{◌≡◌, ◌⊎◌, ℕ, max, ltb, ◌≤◌, [], ◌∷◌, Bool, true, false, cond, refl, sym, ap, ◌∙◌, subst, inl, inr, ⊎_elim, arith, Option, Some, None, option_map, true≢false}
+use Rattle.std.proofs.Common.{◌≡◌, ◌⊎◌, ℕ, max, ltb, ◌≤◌, [], ◌∷◌, Bool, true, false, cond, refl, sym, ap, ◌∙◌, subst, inl, inr, ⊎_elim, arith, Option, Some, None, true≢false}
 use Rattle.std.proofs.lemmas.Bool.Decides.{nat_tests}
 use Rattle.deneva_base.specs.declared.keys.Key.{Key}
 use Rattle.deneva_base.specs.declared.keys.Mode.{Mode}
@@ -9,21 +9,23 @@ use Rattle.deneva_base.specs.Lists.{IsIn}
 use Rattle.deneva_base.specs.Rows.{Rows}
 use Rattle.deneva_base.specs.Modes.{writes}
 use Rattle.protocol_rules.specs.Conditions.{MayCommit, MayAbort}
-use Rattle.protocol_rules.specs.History.{Commit, Abort, History, Grant, Decided, grants, waits, yeas, closed, IsUnended, WaitsNowhere}
-use Rattle.protocol_rules.specs.Latest.{writes_in, row_for}
+use Rattle.protocol_rules.specs.History.{Commit, Abort, History, Grant, Decided, grants, yeas, IsUnended, WaitsNowhere}
 use Rattle.protocol_rules.proofs.Sound.{Sound}
 use Rattle.protocol_rules.proofs.Known.{Known}
 use Rattle.protocol_rules.proofs.Traced.{Traced}
-use Rattle.protocol_rules.specs.Leaving.{later, left_in}
 use Rattle.lock_control.specs.declared.requests.Request.{Request}
 use Rattle.lock_control.specs.declared.table.Table.{Table}
 use Rattle.lock_control.specs.Requests.{mode_in, accessed_by, written_by}
-use Rattle.lock_control.specs.Tables.{Locks, ended_in}
-use Rattle.lock_control.specs.Changes.{Ends, offered}
-use Rattle.lock_control.specs.Standing.{State, state_of, owner_of, IsOwner, IsWaiter, IsTop, any_mode, Tracks, version_of}
+use Rattle.lock_control.specs.Seen.{Locks}
+use Rattle.lock_control.specs.Locks.{ended_in}
+use Rattle.lock_control.specs.Changes.{EndsOne}
+use Rattle.lock_control.specs.Standing.{State, state_of, owner_of, IsOwner, IsWaiter, IsTop, any_mode, Tracks}
+use Rattle.shelf.specs.Keeps.{Apart}
 use Rattle.lock_control.proofs.Puts.{mode_found}
 use Rattle.lock_control.proofs.Asking.{top_stays}
-use Rattle.lock_control.proofs.Ending.{Closes, Apart, closed_locks, closed_tracks, waits_same, committed_version}
+use Rattle.lock_control.proofs.Ending.{closed_locks, closed_tracks}
+use Rattle.shelf.proofs.Closing.{commit_closes, abort_closes}
+use Rattle.shelf.proofs.Keeps.{committed_rows, aborted_rows}
 
 abbrev pub by_mode : (Mode → Bool) → Option Mode → ℕ → ℕ → ℕ
 by_mode passes None n top = top
@@ -45,15 +47,6 @@ max_one a b = go (ltb a b) refl
     go false e = inl (grind (arith, nat_tests, e))
 
 module _ (loaded : Rows) (h : History) (known : Known loaded h) (sound : Sound loaded h) (traced : Traced h) (apart : Apart (yeas h)) (who : Attempt) where
-  commit_nowhere : (number : Number) → MayCommit h who number → WaitsNowhere h who
-  commit_nowhere number may a i e = known.opened a i (subst (λ w. IsIn w (closed h)) (may.inside.2 ∙ sym e) (sound.closes may.inside.0 may.inside.1))
-
-  pub commit_closes : (number : Number) → MayCommit h who number → Closes h (Commit who number [] ∷ h) who
-  commit_closes number may = record { grants_same = refl; waits_kept = waits_same (waits h); ended_more = refl; yeas_same = refl; unended = may.unended; nowhere = commit_nowhere number may }
-
-  pub abort_closes : MayAbort h who → Closes h (Abort who [] ∷ h) who
-  abort_closes may = record { grants_same = refl; waits_kept = waits_same (waits h); ended_more = refl; yeas_same = refl; unended = may.unended; nowhere = may.nowhere }
-
   -- the greatest numbers, with the one of this Commit
   top_commit : (number : Number) → IsUnended h who → WaitsNowhere h who → (s : State) → Tracks loaded s h → (key : Key) (passes : Mode → Bool) (n m : ℕ) → m ≡ by_mode passes (mode_in who (s.locks key).requests) number.n n → IsTop h key passes n → IsTop (Commit who number [] ∷ h) key passes m
   top_commit number unended nowhere s t key passes n m is top = ⊎_elim
@@ -85,20 +78,18 @@ module _ (loaded : Rows) (h : History) (known : Known loaded h) (sound : Sound l
           }
       found g i w k false p e = stays (e ∙ ap (λ b. cond b (max n number.n) n) p) (λ x j w' k' p'. true≢false (sym p' ∙ ap (λ (z : Grant). passes z.mode) (traced.one x g j i (w' ∙ sym w) (k' ∙ sym k)) ∙ p))
 
-  pub committed : (number : Number) (old new : Table) → MayCommit h who number → Tracks loaded (state_of old) h → Ends who (Some number) old new → Tracks loaded (state_of new) (Commit who number [] ∷ h)
+  pub committed : (number : Number) (old new : Table) → MayCommit h who number → Tracks loaded (state_of old) h → EndsOne who (Some number) old new → Tracks loaded (state_of new) (Commit who number [] ∷ h)
   committed number old new may t e =
       let s : State = state_of old in
       let s' : State = state_of new in
-      let c = commit_closes number may in
+      let c = commit_closes known sound may in
       let at : (k : Key) → s'.locks k ≡ ended_in who (Some number) (s.locks k) = closed_locks loaded h (Commit who number [] ∷ h) who (Some number) known traced apart c old new t e in
-      let rows = t.rows who may.unended in
       closed_tracks loaded h (Commit who number [] ∷ h) who (Some number) known traced apart c old new t e
       (λ k. top_commit number may.unended c.nowhere s t k any_mode (s.locks k).accessed (s'.locks k).accessed (ap (λ (l : Locks). l.accessed) (at k) ∙ accessed_is (mode_in who (s.locks k).requests) number.n (s.locks k).accessed) (t.accessed k))
       (λ k. top_commit number may.unended c.nowhere s t k writes (s.locks k).written (s'.locks k).written (ap (λ (l : Locks). l.written) (at k) ∙ written_is (mode_in who (s.locks k).requests) number.n (s.locks k).written) (t.written k))
-      (λ k. ap (option_map version_of) (e.versions k ∙ ap (λ ws. offered number (s.holding who).appends k (offered number ws k (s.versions k))) rows.0 ∙ ap (λ as'. offered number as' k (offered number (writes_in (yeas h) who) k (s.versions k))) rows.1)
-      ∙ committed_version number (yeas h) who k (s.versions k) ∙ ap (λ v. later v number (row_for k (left_in (yeas h) who))) (t.versions k))
+      (committed_rows t.kept may.unended e.shelf)
 
-  pub aborted_tracks : (old new : Table) → MayAbort h who → Tracks loaded (state_of old) h → Ends who None old new → Tracks loaded (state_of new) (Abort who [] ∷ h)
+  pub aborted_tracks : (old new : Table) → MayAbort h who → Tracks loaded (state_of old) h → EndsOne who None old new → Tracks loaded (state_of new) (Abort who [] ∷ h)
   aborted_tracks old new may t e =
       let s : State = state_of old in
       let s' : State = state_of new in
@@ -107,4 +98,4 @@ module _ (loaded : Rows) (h : History) (known : Known loaded h) (sound : Sound l
       closed_tracks loaded h (Abort who [] ∷ h) who None known traced apart c old new t e
       (λ k. top_stays h (Abort who [] ∷ h) k any_mode (s.locks k).accessed (s'.locks k).accessed (ap (λ (l : Locks). l.accessed) (at k)) refl (λ x i. i) (λ x d i j e. i) (t.accessed k))
       (λ k. top_stays h (Abort who [] ∷ h) k writes (s.locks k).written (s'.locks k).written (ap (λ (l : Locks). l.written) (at k)) refl (λ x i. i) (λ x d i j e. i) (t.written k))
-      (λ k. ap (option_map version_of) (e.versions k) ∙ t.versions k)
+      (aborted_rows t.kept e.shelf)

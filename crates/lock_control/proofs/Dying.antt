@@ -1,19 +1,18 @@
 -- A table under WAIT_DIE.
-use Rattle.std.proofs.Common.{◌≡◌, ℕ, ◌≤◌, ◌<◌, ◌^◌, ltb, leb, List, [], ◌∷◌, ◌++◌, map, filter, Bool, true, false, not, ◌&&◌, ◌||◌, cond, length, refl, sym, ap, ap₂, ◌∙◌, subst, inl, inr, ⊎_elim, arith, Option, Some, None, option_map, true≢false}
+use Rattle.std.proofs.Common.{◌≡◌, ℕ, ◌≤◌, ◌<◌, ◌^◌, ltb, leb, List, [], ◌∷◌, map, filter, Bool, true, false, not, ◌&&◌, ◌||◌, cond, length, refl, sym, ap, ap₂, ◌∙◌, subst, inl, inr, ⊎_elim, arith, Option, Some, None, option_map, true≢false}
 use Rattle.std.proofs.lemmas.Bool.Decides.{nat_tests}
 use Rattle.deneva_base.specs.declared.keys.Key.{Key}
 use Rattle.deneva_base.specs.declared.keys.Mode.{Mode}
 use Rattle.deneva_base.specs.declared.numbers.Attempt.{Attempt}
 use Rattle.deneva_base.specs.declared.numbers.Number.{Number}
 use Rattle.deneva_base.specs.declared.causes.Cause.TheVariants.{Younger}
-use Rattle.deneva_base.specs.declared.answers.Answer.{Answer}
 use Rattle.deneva_base.specs.declared.answers.Answer.TheVariants.{Granted, Waits, Refused}
 use Rattle.deneva_base.specs.declared.answers.Wake.{Wake}
 use Rattle.deneva_base.specs.Lists.{IsIn}
 use Rattle.deneva_base.specs.Rows.{Row, Rows}
 use Rattle.deneva_base.specs.Keys.{key_eq, number_lt}
 use Rattle.protocol_rules.specs.Conditions.{MayAsk, MayCommit, MayAbort}
-use Rattle.protocol_rules.specs.History.{Ask, Prepare, Commit, Abort, History, Asked, Grant, grants, waits, yeas, ended, left_waiting, is_woken, IsUnended, Conflict}
+use Rattle.protocol_rules.specs.History.{Commit, Abort, History, Asked, Grant, grants, waits, yeas, ended, is_woken, IsUnended, Conflict}
 use Rattle.protocol_rules.specs.Latest.{Version, latest, newer, row_for, seen, writes_in}
 use Rattle.protocol_rules.specs.Locks.{conflicts, blockers}
 use Rattle.protocol_rules.specs.Order.{by_falling_stamp}
@@ -32,13 +31,19 @@ use Rattle.lock_control.specs.declared.requests.Request.{Request}
 use Rattle.lock_control.specs.declared.lines.Waiter.{Waiter}
 use Rattle.lock_control.specs.declared.table.Table.{Table}
 use Rattle.lock_control.specs.Requests.{conflicting, least_bar, stops, is_stopped}
-use Rattle.lock_control.specs.Tables.{locks_at, holding_at, front_over}
-use Rattle.lock_control.specs.Changes.{read_in, version_after, wake_for, Wakes, EndsAndWakes}
-use Rattle.lock_control.specs.Standing.{state_of, owner_of, waiter_of, IsOwner, IsWaiter, Tracks, Stands, version_of}
-use Rattle.lock_control.proofs.Answering.{barred_none, barred_some, read_is, version_is}
-use Rattle.lock_control.proofs.Ending.{waits_same}
+use Rattle.lock_control.specs.Tables.{locks_at, front_over}
+use Rattle.shelf.specs.Shelves.{held}
+use Rattle.lock_control.specs.Changes.{version_after, wake_for, Wakes, EndsAndWakes}
+use Rattle.shelf.specs.Shelves.{read_in}
+use Rattle.lock_control.specs.Standing.{state_of, owner_of, waiter_of, IsOwner, IsWaiter, Tracks, Stands}
+use Rattle.shelf.specs.Keeps.{version_of}
+use Rattle.lock_control.proofs.Answering.{barred_none, barred_some}
+use Rattle.shelf.proofs.Versions.{read_is, version_is}
+use Rattle.shelf.proofs.Closing.{waits_same}
 use Rattle.lock_control.proofs.Calls.{sounds, knows, traces, grant_is, commit_tracks, abort_tracks}
-use Rattle.lock_control.proofs.Waking.{to_waiter, wake_tracks, length_map, length_sort}
+use Rattle.lock_control.proofs.Waking.{to_waiter, wake_tracks}
+use Rattle.shelf.proofs.Counting.{length_filter, length_sort, waits_short}
+use Rattle.std.proofs.lemmas.List.{length-map}
 use Rattle.lock_control.proofs.Fronts.{all_front, front_is}
 
 none_nil : {A : Type 0} (xs : List A) → ((x : A) → IsIn x xs → ⊥) → none xs ≡ true
@@ -52,14 +57,6 @@ none_some (y ∷ ys) x i = refl
 and_false : (a : Bool) → (a && false) ≡ false
 and_false true = refl
 and_false false = refl
-
-length_filter : (p : Asked → Bool) (xs : List Asked) → length (filter p xs) ≤ length xs
-length_filter p [] = omega arith
-length_filter p (x ∷ xs) = go (p x) (length_filter p xs)
-  where
-    go : (b : Bool) → length (filter p xs) ≤ length xs → length (cond b (x ∷ filter p xs) (filter p xs)) ≤ length (x ∷ xs)
-    go true e = omega (arith, e)
-    go false e = omega (arith, e)
 
 map_same : (f g : Asked → Wake) (h : Waiter → Wake) (xs : List Asked) → ((a : Asked) → IsIn a xs → h (to_waiter a) ≡ g a) → map h (map to_waiter xs) ≡ map g xs
 map_same f g h [] e = refl
@@ -144,45 +141,33 @@ module _ (t : Table) (loaded : Rows) (h : History) (stands : Stands wait_die t l
     pub wait_is : least_bar asked stamp None (locks_at t.lines key).requests ≡ None → is_stopped asked (locks_at t.lines key).requests ≡ true → Waits ≡ (wait_die loaded).ask h who stamp key mode
     wait_is e s = no_elder e false (stopped_is ∙ ap not s)
 
-    pub free_is : least_bar asked stamp None (locks_at t.lines key).requests ≡ None → is_stopped asked (locks_at t.lines key).requests ≡ false → Granted (read_in mode (version_at t.store key)).0 (read_in mode (version_at t.store key)).1 0 ≡ (wait_die loaded).ask h who stamp key mode
+    pub free_is : least_bar asked stamp None (locks_at t.lines key).requests ≡ None → is_stopped asked (locks_at t.lines key).requests ≡ false → Granted (read_in mode (version_at t.shelf.store key)).0 (read_in mode (version_at t.shelf.store key)).1 0 ≡ (wait_die loaded).ask h who stamp key mode
     free_is e s = grant_is wait_die wait_die_wakes t loaded h stands who stamp key mode may ∙ no_elder e true (stopped_is ∙ ap not s)
 
   -- there is room to count one more
-  waits_short : (k : History) → length (waits k) ≤ length k
-  waits_short [] = omega arith
-  waits_short (Ask who stamp key mode answer ∷ k) = go answer (waits_short k)
-    where
-      go : (a : Answer) → length (waits k) ≤ length k → length (left_waiting (record { who = who; stamp = stamp; key = key; mode = mode }) a ++ waits k) ≤ length (Ask who stamp key mode answer ∷ k)
-      go (Granted row version bound) e = omega (arith, e)
-      go Waits e = omega (arith, e)
-      go (Refused cause) e = omega (arith, e)
-  waits_short (Prepare who bound ws as' vote ∷ k) = let e = waits_short k in omega (arith, e)
-  waits_short (Commit who number woken ∷ k) = let e = waits_short k in let f = length_filter (λ a. not (is_woken woken a)) (waits k) in omega (arith, e, f)
-  waits_short (Abort who woken ∷ k) = let e = waits_short k in let f = length_filter (λ a. not (is_woken woken a)) (waits k) in omega (arith, e, f)
-
   pub few_wait : (who : Attempt) (stamp : ℕ) (key : Key) → MayAsk loaded h who stamp key → t.waiting < 2 ^ 63
   few_wait who stamp key may = let e = stands.tracks.waiting in let s = waits_short h in let m = may.short in omega (arith, e, s, m)
 
   -- the end of an attempt: h1 is h with it, before it wakes anyone
   module _ (who : Attempt) (number : Option Number) (h1 : History) (unended : IsUnended h who) (known1 : Known loaded h1) (same_waits : waits h1 ≡ waits h) (same_grants : grants h1 ≡ grants h) (ends : ended h1 ≡ who ∷ ended h)
       (last1 : (key : Key) → latest loaded h1 key ≡ next number (latest loaded h key) (row_for key (writes_in (yeas h) who))) where
-    held : (a : Asked) → IsIn a (front h1) → IsIn a.key (holding_at t.parts who).keys
-    held a i =
+    noted_key : (a : Asked) → IsIn a (front h1) → IsIn a.key (held t.shelf who).keys
+    noted_key a i =
         let g = woken_by loaded h h1 who a (λ x j. subst (λ l. IsIn x l) same_waits j) (λ x j. subst (λ l. IsIn x l) (sym same_waits) j) (λ x j. subst (λ l. IsIn x l) (sym same_grants) j) (λ x u. ⊎_elim (λ m. inl m.1) (λ m. inr (λ j. ⊎_elim (λ e. m.1 e) (λ k. u k) (subst (λ l. IsIn x l) ends j))) (attempt_tells x who)) (queued loaded h stands.obeys).1 i in
-        subst (λ k. IsIn k (holding_at t.parts who).keys) g.3.0 (subst (λ w. IsIn g.0.key (holding_at t.parts w).keys) g.2 (stands.tracks.noted g.0 g.1 (subst (λ w. IsUnended h w) (sym g.2) unended)))
+        subst (λ k. IsIn k (held t.shelf who).keys) g.3.0 (subst (λ w. IsIn g.0.key (held t.shelf w).keys) g.2 (stands.tracks.kept.noted g.0 g.1 (subst (λ w. IsUnended h w) (sym g.2) unended)))
 
     distinct : Distinct (waits h)
     distinct = distinct_waits loaded (wait_die loaded) h stands.obeys
 
-    pub front_table : front_over who t.lines (holding_at t.parts who).keys ≡ map to_waiter (sort by_falling_stamp (front h1))
+    pub front_table : front_over who t.lines (held t.shelf who).keys ≡ map to_waiter (sort by_falling_stamp (front h1))
     front_table =
-        front_is loaded h h1 who kn known1 distinct same_waits same_grants ends (state_of t) stands.tracks t.lines (holding_at t.parts who).keys (λ k. refl)
-        ∙ ap (map to_waiter) (all_front loaded h h1 who kn known1 distinct same_waits same_grants ends (state_of t) stands.tracks (holding_at t.parts who).keys (stands.tracks.rising who) held)
+        front_is loaded h h1 who kn known1 distinct same_waits same_grants ends (state_of t) stands.tracks t.lines (held t.shelf who).keys (λ k. refl)
+        ∙ ap (map to_waiter) (all_front loaded h h1 who kn known1 distinct same_waits same_grants ends (state_of t) stands.tracks (held t.shelf who).keys (stands.tracks.kept.rising who) noted_key)
 
-    pub few_woken : length (front_over who t.lines (holding_at t.parts who).keys) ≤ t.waiting
+    pub few_woken : length (front_over who t.lines (held t.shelf who).keys) ≤ t.waiting
     few_woken =
         let e = ap (λ (l : List Waiter). length l) front_table in
-        let m = length_map to_waiter (sort by_falling_stamp (front h1)) in
+        let m = length-map (sort by_falling_stamp (front h1)) to_waiter in
         let s = length_sort by_falling_stamp (front h1) in
         let f = length_filter (λ a. none (filter (λ b. key_eq b.key a.key && (leb a.stamp b.stamp && not (is_free h1 b))) (waits h1))) (waits h1) in
         let w = ap (λ (l : List Asked). length l) same_waits in
@@ -209,34 +194,34 @@ module _ (t : Table) (loaded : Rows) (h : History) (stands : Stands wait_die t l
             two true = refl
             two false = refl
 
-    pub wakes_table : map (wake_for t.store number (holding_at t.parts who).writes) (front_over who t.lines (holding_at t.parts who).keys) ≡ wakes loaded h1
-    wakes_table = ap (map (wake_for t.store number (holding_at t.parts who).writes)) front_table ∙ map_same (wake_of loaded h1) (wake_of loaded h1) (wake_for t.store number (holding_at t.parts who).writes) (sort by_falling_stamp (front h1)) each
+    pub wakes_table : map (wake_for t.shelf.store number (held t.shelf who).writes) (front_over who t.lines (held t.shelf who).keys) ≡ wakes loaded h1
+    wakes_table = ap (map (wake_for t.shelf.store number (held t.shelf who).writes)) front_table ∙ map_same (wake_of loaded h1) (wake_of loaded h1) (wake_for t.shelf.store number (held t.shelf who).writes) (sort by_falling_stamp (front h1)) each
       where
-        each : (a : Asked) → IsIn a (sort by_falling_stamp (front h1)) → wake_for t.store number (holding_at t.parts who).writes (to_waiter a) ≡ wake_of loaded h1 a
+        each : (a : Asked) → IsIn a (sort by_falling_stamp (front h1)) → wake_for t.shelf.store number (held t.shelf who).writes (to_waiter a) ≡ wake_of loaded h1 a
         each a i =
             let w : IsIn a (waits h) = subst (λ l. IsIn a l) same_waits (front_in h1 a (sort_in by_falling_stamp a (front h1) i)) in
             let row = kn.here a (kn.asked a w) in
-            let v = version_is loaded h kn so (traces wait_die wait_die_wakes t loaded h stands) (state_of t) stands.tracks (wait_die loaded) a.key row.0 stands.obeys row.1 in
-            let mine = ap (row_for a.key) (stands.tracks.rows who unended).0 in
-            let after = ap (λ r. option_map version_of (version_after number r (version_at t.store a.key))) mine ∙ after_is number (row_for a.key (writes_in (yeas h) who)) (version_at t.store a.key) (latest loaded h a.key) v ∙ ap (λ x. Some x) (sym (last1 a.key)) in
-            let r = read_is a.mode (version_after number (row_for a.key (holding_at t.parts who).writes) (version_at t.store a.key)) (latest loaded h1 a.key) after in
-            ap₂ (λ x y. record { who = a.who; key = a.key; row = x; version = y; bound = 0 }) r.0 r.1
+            let v = version_is (wait_die loaded) stands.tracks.kept stands.obeys a.key row.0 row.1 in
+            let mine = ap (row_for a.key) (stands.tracks.kept.rows who unended).0 in
+            let after = ap (λ r. option_map version_of (version_after number r (version_at t.shelf.store a.key))) mine ∙ after_is number (row_for a.key (writes_in (yeas h) who)) (version_at t.shelf.store a.key) (latest loaded h a.key) v ∙ ap (λ x. Some x) (sym (last1 a.key)) in
+            let r = read_is a.mode (version_after number (row_for a.key (held t.shelf who).writes) (version_at t.shelf.store a.key)) (latest loaded h1 a.key) after in
+            ap (λ (x : Row × Number). record { who = a.who; key = a.key; row = x.0; version = x.1; bound = 0 }) r
 
   module _ (who : Attempt) (number : Number) (may : MayCommit h who number) where
     commit_known : Known loaded (Commit who number [] ∷ h)
     commit_known = known_more loaded h (Commit who number []) may so kn
 
-    pub commit_few : length (front_over who t.lines (holding_at t.parts who).keys) ≤ t.waiting
+    pub commit_few : length (front_over who t.lines (held t.shelf who).keys) ≤ t.waiting
     commit_few = few_woken who (Some number) (Commit who number [] ∷ h) may.unended commit_known (waits_same (waits h)) refl refl (λ k. refl)
 
-    pub commit_wakes : map (wake_for t.store (Some number) (holding_at t.parts who).writes) (front_over who t.lines (holding_at t.parts who).keys) ≡ (wait_die loaded).commit h who number
+    pub commit_wakes : map (wake_for t.shelf.store (Some number) (held t.shelf who).writes) (front_over who t.lines (held t.shelf who).keys) ≡ (wait_die loaded).commit h who number
     commit_wakes = wakes_table who (Some number) (Commit who number [] ∷ h) may.unended commit_known (waits_same (waits h)) refl refl (λ k. refl)
 
-    pub commit_stands : (new : Table) → EndsAndWakes who (Some number) (front_over who t.lines (holding_at t.parts who).keys) t new → Tracks loaded (state_of new) (Commit who number ((wait_die loaded).commit h who number) ∷ h)
+    pub commit_stands : (new : Table) → EndsAndWakes who (Some number) (front_over who t.lines (held t.shelf who).keys) t new → Tracks loaded (state_of new) (Commit who number ((wait_die loaded).commit h who number) ∷ h)
     commit_stands new c =
         let h1 : History = Commit who number [] ∷ h in
-        wake_tracks loaded h1 (Commit who number (wakes loaded h1) ∷ h) commit_known (sound_more loaded h (Commit who number []) may so)
-        (record { grants_more = refl; waits_less = ap (filter (λ a. not (is_woken (wakes loaded h1) a))) (sym (waits_same (waits h))); ended_same = refl; yeas_same = refl; decided_same = refl; last_same = λ k. refl })
+        wake_tracks loaded h1 (Commit who number (wakes loaded h1) ∷ h) commit_known (sound_more loaded h (Commit who number []) may so) refl
+        (record { grants_more = refl; waits_less = ap (filter (λ a. not (is_woken (wakes loaded h1) a))) (sym (waits_same (waits h))); ended_same = refl; yeas_same = refl; last_same = λ k. refl })
         c.between new (commit_tracks wait_die wait_die_wakes t loaded h stands who number c.between may c.ends)
         (subst (λ f. Wakes f c.between new) (front_table who (Some number) h1 may.unended commit_known (waits_same (waits h)) refl refl (λ k. refl)) c.wakes)
 
@@ -244,16 +229,16 @@ module _ (t : Table) (loaded : Rows) (h : History) (stands : Stands wait_die t l
     abort_known : Known loaded (Abort who [] ∷ h)
     abort_known = known_more loaded h (Abort who []) may so kn
 
-    pub abort_few : length (front_over who t.lines (holding_at t.parts who).keys) ≤ t.waiting
+    pub abort_few : length (front_over who t.lines (held t.shelf who).keys) ≤ t.waiting
     abort_few = few_woken who None (Abort who [] ∷ h) may.unended abort_known (waits_same (waits h)) refl refl (λ k. refl)
 
-    pub abort_wakes : map (wake_for t.store None (holding_at t.parts who).writes) (front_over who t.lines (holding_at t.parts who).keys) ≡ (wait_die loaded).abort h who
+    pub abort_wakes : map (wake_for t.shelf.store None (held t.shelf who).writes) (front_over who t.lines (held t.shelf who).keys) ≡ (wait_die loaded).abort h who
     abort_wakes = wakes_table who None (Abort who [] ∷ h) may.unended abort_known (waits_same (waits h)) refl refl (λ k. refl)
 
-    pub abort_stands : (new : Table) → EndsAndWakes who None (front_over who t.lines (holding_at t.parts who).keys) t new → Tracks loaded (state_of new) (Abort who ((wait_die loaded).abort h who) ∷ h)
+    pub abort_stands : (new : Table) → EndsAndWakes who None (front_over who t.lines (held t.shelf who).keys) t new → Tracks loaded (state_of new) (Abort who ((wait_die loaded).abort h who) ∷ h)
     abort_stands new c =
         let h1 : History = Abort who [] ∷ h in
-        wake_tracks loaded h1 (Abort who (wakes loaded h1) ∷ h) abort_known (sound_more loaded h (Abort who []) may so)
-        (record { grants_more = refl; waits_less = ap (filter (λ a. not (is_woken (wakes loaded h1) a))) (sym (waits_same (waits h))); ended_same = refl; yeas_same = refl; decided_same = refl; last_same = λ k. refl })
+        wake_tracks loaded h1 (Abort who (wakes loaded h1) ∷ h) abort_known (sound_more loaded h (Abort who []) may so) refl
+        (record { grants_more = refl; waits_less = ap (filter (λ a. not (is_woken (wakes loaded h1) a))) (sym (waits_same (waits h))); ended_same = refl; yeas_same = refl; last_same = λ k. refl })
         c.between new (abort_tracks wait_die wait_die_wakes t loaded h stands who c.between may c.ends)
         (subst (λ f. Wakes f c.between new) (front_table who None h1 may.unended abort_known (waits_same (waits h)) refl refl (λ k. refl)) c.wakes)

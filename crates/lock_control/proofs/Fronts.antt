@@ -22,8 +22,10 @@ use Rattle.protocol_rules.proofs.WaitDies.{in_order, front_in}
 use Rattle.lock_control.specs.declared.requests.Request.{Request}
 use Rattle.lock_control.specs.declared.lines.Lines.{Lines}
 use Rattle.lock_control.specs.Requests.{conflicting, is_barred, any_conflicts, front_of}
-use Rattle.lock_control.specs.Tables.{Locks, locks_at, waiter_for, front_over}
-use Rattle.lock_control.specs.Standing.{State, owner_of, waiter_of, IsOwner, IsWaiter, Falling, Rising, Tracks}
+use Rattle.lock_control.specs.Seen.{Locks}
+use Rattle.lock_control.specs.Tables.{locks_at, waiter_for, front_over}
+use Rattle.lock_control.specs.Standing.{State, owner_of, waiter_of, IsOwner, IsWaiter, Falling, Tracks}
+use Rattle.shelf.specs.Keeps.{Rising}
 use Rattle.lock_control.proofs.Waking.{to_waiter}
 
 abbrev pub as_asked : Key → Request → Asked

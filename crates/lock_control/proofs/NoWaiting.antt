@@ -21,7 +21,7 @@ use Rattle.lock_control.specs.declared.requests.Request.{Request}
 use Rattle.lock_control.specs.declared.table.Table.{Table}
 use Rattle.lock_control.specs.Requests.{least_bar}
 use Rattle.lock_control.specs.Tables.{locks_at}
-use Rattle.lock_control.specs.Changes.{read_in}
+use Rattle.shelf.specs.Shelves.{read_in}
 use Rattle.lock_control.specs.Standing.{state_of, Stands}
 use Rattle.lock_control.proofs.Answering.{barred_none, barred_some}
 use Rattle.lock_control.proofs.Calls.{sounds, knows, traces, grant_is}
@@ -49,7 +49,7 @@ module _ (t : Table) (loaded : Rows) (h : History) (stands : Stands no_wait t lo
       let f = barred_some loaded h (knows no_wait no_wait_wakes t loaded h stands) (sounds no_wait no_wait_wakes t loaded h stands) (traces no_wait no_wait_wakes t loaded h stands) (state_of t) stands.tracks access asked (2 ^ 64 - 1) refl refl (blockers h access) in_range (λ g i u c l. blocker_in h access g i u c) x e in
       ap (λ (r : Request). Refused (Held key r.who)) f.3 ∙ ap (λ gs. held_or_granted key gs (seen mode (latest loaded h key))) (sym f.2)
 
-  pub free_is : least_bar asked (2 ^ 64 - 1) None (locks_at t.lines key).requests ≡ None → Granted (read_in mode (version_at t.store key)).0 (read_in mode (version_at t.store key)).1 0 ≡ (no_wait loaded).ask h who stamp key mode
+  pub free_is : least_bar asked (2 ^ 64 - 1) None (locks_at t.lines key).requests ≡ None → Granted (read_in mode (version_at t.shelf.store key)).0 (read_in mode (version_at t.shelf.store key)).1 0 ≡ (no_wait loaded).ask h who stamp key mode
   free_is e =
       let f = barred_none loaded h (knows no_wait no_wait_wakes t loaded h stands) (sounds no_wait no_wait_wakes t loaded h stands) (traces no_wait no_wait_wakes t loaded h stands) (state_of t) stands.tracks access asked (2 ^ 64 - 1) refl refl (blockers h access) in_range (λ g i u c l. blocker_in h access g i u c) e in
       grant_is no_wait no_wait_wakes t loaded h stands who stamp key mode may ∙ ap (λ gs. held_or_granted key gs (seen mode (latest loaded h key))) (sym f)

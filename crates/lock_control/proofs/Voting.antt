@@ -20,8 +20,9 @@ use Rattle.protocol_rules.proofs.Traced.{Traced}
 use Rattle.protocol_rules.proofs.Locks.{conflict_decides, floor_top, met_true}
 use Rattle.lock_control.specs.declared.requests.Request.{Request}
 use Rattle.lock_control.specs.Requests.{mode_in, floor_in}
-use Rattle.lock_control.specs.Tables.{floor_at}
+use Rattle.lock_control.specs.Locks.{floor_at}
 use Rattle.lock_control.specs.Standing.{State, owner_of, IsOwner, IsWaiter, IsTop, any_mode, Tracks}
+use Rattle.shelf.specs.Shelves.{held}
 use Rattle.lock_control.proofs.Puts.{mode_found}
 
 floor_le : (h : History) (who : Attempt) (m : ℕ) (ds : List Decided) → ((d : Decided) → IsIn d ds → met h who d ≡ true → d.number.n ≤ m) → greatest_met h who ds ≤ m
@@ -80,12 +81,12 @@ module _ (loaded : Rows) (h : History) (sound : Sound loaded h) (traced : Traced
       go g i e k true w = rw w (top any_mode (s.locks key).accessed (t.accessed key) (λ x d j l is k' p. met_true h who d g x i e j is (k' ∙ sym k, (λ same. apart x d is l (same ∙ e)), (λ r. not_read g.mode w r.1))))
       go g i e k false w = rw w (top writes (s.locks key).written (t.written key) (λ x d j l is k' p. met_true h who d g x i e j is (k' ∙ sym k, (λ same. apart x d is l (same ∙ e)), (λ r. not_read x.mode p r.0))))
 
-  reaches : (d : Decided) → IsIn d (decided h) → met h who d ≡ true → d.number.n ≤ greatest_by (λ key. floor_at who (s.locks key)) (s.holding who).keys
+  reaches : (d : Decided) → IsIn d (decided h) → met h who d ≡ true → d.number.n ≤ greatest_by (λ key. floor_at who (s.locks key)) (held s.shelf who).keys
   reaches d i m =
       let f = met_found h who d m in
       let mine : Grant = f.0 in
-      let here : IsIn mine.key (s.holding who).keys = subst (λ w. IsIn mine.key (s.holding w).keys) f.4 (t.noted mine f.2 (subst (λ w. IsUnended h w) (sym f.4) unended)) in
-      let top = top_by (λ key. floor_at who (s.locks key)) mine.key (s.holding who).keys here in
+      let here : IsIn mine.key (held s.shelf who).keys = subst (λ w. IsIn mine.key (held s.shelf w).keys) f.4 (t.kept.noted mine f.2 (subst (λ w. IsUnended h w) (sym f.4) unended)) in
+      let top = top_by (λ key. floor_at who (s.locks key)) mine.key (held s.shelf who).keys here in
       let at : d.number.n ≤ floor_at who (s.locks mine.key) = ⊎_elim
       (λ o. let one : o.0 ≡ mine = traced.one o.0 mine o.1 f.2 (o.2 ∙ sym f.4) o.3 in rw o.4 (go mine o.0 one f.1 f.3 f.5 f.6 (writes o.0.mode) refl))
       (λ n. absurd (n.1 mine f.2 f.4 refl))
@@ -97,10 +98,10 @@ module _ (loaded : Rows) (h : History) (sound : Sound loaded h) (traced : Traced
       go mine g one other j e c false w = rw w ((t.written mine.key).over other d j i e c.0 (other_writes other.mode mine.mode (ap (λ (z : Grant). writes z.mode) (sym one) ∙ w) c.2))
 
   -- the greatest over its keys is the greatest number of a committed conflict
-  pub floor_is : greatest_by (λ key. floor_at who (s.locks key)) (s.holding who).keys ≡ greatest_met h who (decided h)
+  pub floor_is : greatest_by (λ key. floor_at who (s.locks key)) (held s.shelf who).keys ≡ greatest_met h who (decided h)
   floor_is =
-      let a = greatest_le (λ key. floor_at who (s.locks key)) (greatest_met h who (decided h)) (s.holding who).keys (λ key i. below_floor key) in
-      let b = floor_le h who (greatest_by (λ key. floor_at who (s.locks key)) (s.holding who).keys) (decided h) (λ d i m. reaches d i m) in
+      let a = greatest_le (λ key. floor_at who (s.locks key)) (greatest_met h who (decided h)) (held s.shelf who).keys (λ key i. below_floor key) in
+      let b = floor_le h who (greatest_by (λ key. floor_at who (s.locks key)) (held s.shelf who).keys) (decided h) (λ d i m. reaches d i m) in
       omega (arith, a, b)
 
 -- committed numbers are small, and so is a floor

@@ -4,12 +4,13 @@ ghost use Rattle.deneva_base.specs.Lists.{greatest_by};
 ghost use Rattle.deneva_base.specs.declared.keys.Key.{Key};
 ghost use Rattle.protocol_rules.specs.WaitDie.{none};
 ghost use Rattle.lock_control.specs.Requests.{least_bar, is_stopped};
-ghost use Rattle.lock_control.specs.Tables.{locks_at, no_locks, floor_at, with_request, ended_in, all_ended, granted_in, all_granted, waiter_for, front_over, SetsLocks, SameLocks};
+ghost use Rattle.lock_control.specs.Locks.{no_locks, floor_at, with_request, ended_in, granted_in};
+ghost use Rattle.lock_control.specs.Tables.{locks_at, all_ended, all_granted, waiter_for, front_over, SetsLocks, SameLocks};
 
 use crate::requests::{Line, Request};
 use deneva_base::{Attempt, Key, Mode, NoMemory, Number};
+use key_table::Table;
 use std::alloc::Global;
-use std::collections::HashMap;
 
 /// A request that waits, with its key.
 #[derive(Clone, Copy, Debug)]
@@ -23,7 +24,7 @@ pub(crate) struct Waiter {
 #[derive(Drop)]
 pub(crate) struct Lines {
     alloc: Global,
-    lines: HashMap<Key, Line>,
+    lines: Table<Key, Line>,
 }
 
 impl Lines {
@@ -32,7 +33,7 @@ impl Lines {
     {
         Lines {
             alloc,
-            lines: HashMap::new(alloc),
+            lines: Table::new(alloc),
         }
     }
 
@@ -40,7 +41,7 @@ impl Lines {
     pub fn least_bar(&self, key: Key, asked: &Request, below: u64) -> Option<Request>
         ensures { result ≡ least_bar asked.now below None (locks_at self.now key).requests }
     {
-        match self.lines.get(&key) {
+        match self.lines.get(key) {
             Some(line) => line.least_bar(asked, below),
             None => None,
         }
@@ -50,7 +51,7 @@ impl Lines {
     pub fn is_stopped(&self, key: Key, asked: &Request) -> bool
         ensures { result ≡ is_stopped asked.now (locks_at self.now key).requests }
     {
-        match self.lines.get(&key) {
+        match self.lines.get(key) {
             Some(line) => line.is_stopped(asked),
             None => false,
         }
@@ -60,7 +61,7 @@ impl Lines {
     pub fn floor(&self, key: Key, who: Attempt) -> u64
         ensures { result ≡ floor_at who (locks_at self.now key) }
     {
-        match self.lines.get(&key) {
+        match self.lines.get(key) {
             Some(line) => line.floor(who),
             None => 0,
         }
@@ -71,24 +72,16 @@ impl Lines {
         ensures ok { OnOk result (SetsLocks self.old key (with_request request (locks_at self.old key)) self.new) }
         ensures err { OnErr result (SameLocks self.old self.new) }
     {
-        if let Some(line) = self.lines.get_mut(&key) {
-            return line.add(request);
-        }
-        let mut line = Line::new(self.alloc);
-        line.add(request)?;
-        self.lines.insert(key, line)?;
-        Ok(())
+        let line = self.lines.slot(key)?;
+        line.add(request)
     }
 
     /// Takes out the attempt's request for the key. Where it commits, its number counts for the votes to come.
     pub fn end(&mut self, key: Key, who: Attempt, number: Option<Number>)
         ensures { SetsLocks self.old key (ended_in who number (locks_at self.old key)) self.new }
     {
-        if let Some(line) = self.lines.get_mut(&key) {
-            if let Some(number) = number {
-                line.raise(who, number.n);
-            }
-            line.end(who);
+        if let Some(line) = self.lines.get_mut(key) {
+            line.end(who, number);
         }
     }
 
@@ -118,7 +111,7 @@ impl Lines {
     {
         let mut front = Vec::new(self.alloc);
         for key in keys {
-            if let Some(line) = self.lines.get(key) {
+            if let Some(line) = self.lines.get(*key) {
                 push_waiters(&mut front, *key, &line.front(self.alloc, ended)?)?;
             }
         }
@@ -130,7 +123,7 @@ impl Lines {
         ensures { result ≡ none (front_over ended self.now keys.now) }
     {
         for key in keys {
-            if let Some(line) = self.lines.get(key) {
+            if let Some(line) = self.lines.get(*key) {
                 if !line.is_idle(ended) {
                     return false;
                 }
@@ -143,7 +136,7 @@ impl Lines {
     pub fn wake(&mut self, key: Key, who: Attempt)
         ensures { SetsLocks self.old key (granted_in who (locks_at self.old key)) self.new }
     {
-        if let Some(line) = self.lines.get_mut(&key) {
+        if let Some(line) = self.lines.get_mut(key) {
             line.wake(who);
         }
     }

@@ -79,7 +79,7 @@ impl Control for Locks<0> {
     }
 
     fn rows(&self) -> Result<RowList, NoMemory> {
-        self.table.store.rows_in_order()
+        self.table.shelf.rows_in_order()
     }
 
     ghost obeys = { λ s loaded h stands. stands.obeys };
@@ -153,7 +153,7 @@ impl Control for Locks<1> {
     }
 
     fn rows(&self) -> Result<RowList, NoMemory> {
-        self.table.store.rows_in_order()
+        self.table.shelf.rows_in_order()
     }
 
     ghost obeys = { λ s loaded h stands. stands.obeys };

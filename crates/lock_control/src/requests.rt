@@ -1,11 +1,13 @@
 //! The requests for one key.
-ghost use Rattle.std.specs.Prelude.{◌≡◌, [], not, filter, map, None, IfOk, OnOk, OnErr};
-ghost use Rattle.deneva_base.specs.Keys.{attempt_eq};
+ghost use Rattle.std.specs.Prelude.{◌≡◌, [], None, Some, IfOk, OnOk, OnErr};
 ghost use Rattle.protocol_rules.specs.WaitDie.{none};
-ghost use Rattle.lock_control.specs.Requests.{conflicting, least_bar, is_stopped, is_barred, any_conflicts, front_of, put_request, mode_in, floor_in, accessed_by, written_by, grants_to};
+ghost use Rattle.lock_control.specs.Requests.{conflicting, least_bar, is_stopped, is_barred, any_conflicts, front_of, mode_in, grants_to};
+ghost use Rattle.lock_control.specs.Locks.{no_locks, with_request, without, raised, ended_in, granted_in, floor_at};
 
-use deneva_base::{Attempt, Mode, NoMemory};
+use deneva_base::{Attempt, Mode, NoMemory, Number};
+use key_table::Empty;
 use std::alloc::Global;
+use std::marker::Model;
 
 /// An access that an attempt asked for: it is granted, or it waits.
 #[derive(Clone, Copy, Debug)]
@@ -51,27 +53,35 @@ fn any_conflicts(requests: &[Request], asked: &Request) -> bool
 /// committed: of all, and of those that wrote.
 #[derive(Drop)]
 pub(crate) struct Line {
-    pub requests: Vec<Request>,
-    pub accessed: u64,
-    pub written: u64,
+    requests: Vec<Request>,
+    accessed: u64,
+    written: u64,
 }
 
-impl Line {
-    pub fn new(alloc: Global) -> Line
-        ensures requests { result.requests.items ≡ [] }
-        ensures accessed { result.accessed ≡ 0 }
-        ensures written { result.written ≡ 0 }
-    {
+impl Model for Line {
+    ghost use Rattle.lock_control.specs.Seen.{Locks};
+
+    ghost Value = { Locks };
+
+    ghost view = { λ l. record { requests = l.requests.items; accessed = l.accessed; written = l.written } };
+}
+
+impl Empty for Line {
+    ghost empty = { no_locks };
+
+    fn empty(alloc: Global) -> Line {
         Line {
             requests: Vec::new(alloc),
             accessed: 0,
             written: 0,
         }
     }
+}
 
+impl Line {
     /// The owner of the least attempt that conflicts and whose stamp is below `below`.
     pub fn least_bar(&self, asked: &Request, below: u64) -> Option<Request>
-        ensures { result ≡ least_bar asked.now below None self.now.requests.items }
+        ensures { result ≡ least_bar asked.now below None self.now.requests }
     {
         let mut least: Option<Request> = None;
         for request in &self.requests {
@@ -87,7 +97,7 @@ impl Line {
 
     /// Whether an owner conflicts, or a request that waits and has a greater stamp.
     pub fn is_stopped(&self, asked: &Request) -> bool
-        ensures { result ≡ is_stopped asked.now self.now.requests.items }
+        ensures { result ≡ is_stopped asked.now self.now.requests }
     {
         for request in &self.requests {
             if request.conflicts(asked) && (!request.waits || asked.stamp < request.stamp) {
@@ -99,7 +109,7 @@ impl Line {
 
     /// Whether an owner conflicts, other than the attempt that ends.
     pub fn is_barred(&self, asked: &Request, ended: Attempt) -> bool
-        ensures { result ≡ is_barred ended asked.now self.now.requests.items }
+        ensures { result ≡ is_barred ended asked.now self.now.requests }
     {
         for request in &self.requests {
             if !request.waits && request.who != ended && request.conflicts(asked) {
@@ -112,7 +122,7 @@ impl Line {
     /// The requests from the front that wait and are to be granted when an attempt ends: up to the first that conflicts
     /// with an owner, those before it among the owners.
     pub fn front(&self, alloc: Global, ended: Attempt) -> Result<Vec<Request>, NoMemory>
-        ensures { IfOk result (λ front. front.items ≡ front_of ended self.now.requests.items [] self.now.requests.items) }
+        ensures { IfOk result (λ front. front.items ≡ front_of ended self.now.requests [] self.now.requests) }
     {
         let mut front = Vec::new(alloc);
         for request in &self.requests {
@@ -128,7 +138,7 @@ impl Line {
 
     /// Whether none of the requests is to be granted when an attempt ends.
     pub fn is_idle(&self, ended: Attempt) -> bool
-        ensures { result ≡ none (front_of ended self.now.requests.items [] self.now.requests.items) }
+        ensures { result ≡ none (front_of ended self.now.requests [] self.now.requests) }
     {
         for request in &self.requests {
             if request.waits {
@@ -140,10 +150,8 @@ impl Line {
 
     /// Puts a request in its place by stamp.
     pub fn add(&mut self, request: Request) -> Result<(), NoMemory>
-        ensures ok { OnOk result (self.new.requests.items ≡ put_request request self.old.requests.items) }
-        ensures err { OnErr result (self.new.requests.items ≡ self.old.requests.items) }
-        ensures accessed { self.new.accessed ≡ self.old.accessed }
-        ensures written { self.new.written ≡ self.old.written }
+        ensures ok { OnOk result (self.new ≡ with_request request self.old) }
+        ensures err { OnErr result (self.new ≡ self.old) }
     {
         let mut place = 0;
         while place < self.requests.len() && self.requests[place].stamp > request.stamp {
@@ -155,7 +163,7 @@ impl Line {
 
     /// The mode of an attempt's access.
     pub fn mode_of(&self, who: Attempt) -> Option<Mode>
-        ensures { result ≡ mode_in who self.now.requests.items }
+        ensures { result ≡ mode_in who self.now.requests }
     {
         for request in &self.requests {
             if request.who == who {
@@ -166,17 +174,15 @@ impl Line {
     }
 
     /// Takes out an attempt's request.
-    pub fn end(&mut self, who: Attempt)
-        ensures requests { self.new.requests.items ≡ filter (λ r. not (attempt_eq r.who who)) self.old.requests.items }
-        ensures accessed { self.new.accessed ≡ self.old.accessed }
-        ensures written { self.new.written ≡ self.old.written }
+    fn take_out(&mut self, who: Attempt)
+        ensures { self.new ≡ without who self.old }
     {
         self.requests.retain(|request| request.who != who);
     }
 
     /// The greatest number under which an attempt committed whose access conflicted with that of this one.
     pub fn floor(&self, who: Attempt) -> u64
-        ensures { result ≡ floor_in (mode_in who self.now.requests.items) self.now.accessed self.now.written }
+        ensures { result ≡ floor_at who self.now }
     {
         match self.mode_of(who) {
             Some(mode) if mode.is_writing() => self.accessed,
@@ -185,25 +191,29 @@ impl Line {
         }
     }
 
-    /// Notes that the attempt commits under this number.
-    pub fn raise(&mut self, who: Attempt, n: u64)
-        ensures requests { self.new.requests.items ≡ self.old.requests.items }
-        ensures accessed { self.new.accessed ≡ accessed_by (mode_in who self.old.requests.items) n self.old.accessed }
-        ensures written { self.new.written ≡ written_by (mode_in who self.old.requests.items) n self.old.written }
+    /// Notes that the attempt commits, where it has a number.
+    fn raise(&mut self, who: Attempt, number: Option<Number>)
+        ensures { self.new ≡ raised who number self.old }
     {
-        if let Some(mode) = self.mode_of(who) {
-            self.accessed = self.accessed.max(n);
+        if let (Some(number), Some(mode)) = (number, self.mode_of(who)) {
+            self.accessed = self.accessed.max(number.n);
             if mode.is_writing() {
-                self.written = self.written.max(n);
+                self.written = self.written.max(number.n);
             }
         }
     }
 
+    /// Takes out an attempt's request. Where it commits, its number counts for the votes to come.
+    pub fn end(&mut self, who: Attempt, number: Option<Number>)
+        ensures { self.new ≡ ended_in who number self.old }
+    {
+        self.raise(who, number);
+        self.take_out(who);
+    }
+
     /// Grants an attempt's request.
     pub fn wake(&mut self, who: Attempt)
-        ensures requests { self.new.requests.items ≡ map (grants_to who) self.old.requests.items }
-        ensures accessed { self.new.accessed ≡ self.old.accessed }
-        ensures written { self.new.written ≡ self.old.written }
+        ensures { self.new ≡ granted_in who self.old }
     {
         for place in 0..self.requests.len() {
             let request = self.requests[place];

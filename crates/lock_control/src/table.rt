@@ -11,64 +11,48 @@ ghost use Rattle.control_core.specs.Leaving.{IsLoadedStore};
 ghost use Rattle.protocol_rules.specs.Latest.{row_for};
 ghost use Rattle.protocol_rules.specs.WaitDie.{none};
 ghost use Rattle.lock_control.specs.Requests.{waiting};
-ghost use Rattle.lock_control.specs.Tables.{locks_at, holding_at, floor_at, front_over};
-ghost use Rattle.lock_control.specs.Changes.{read_in, IsFresh, Adds, MayNote, Promises, MayReserve, Ends, EndsAndWakes, Wakes, offered, comes_after, version_after, wake_for};
+ghost use Rattle.shelf.specs.Shelves.{held, read_in};
+ghost use Rattle.lock_control.specs.Locks.{floor_at};
+ghost use Rattle.lock_control.specs.Tables.{locks_at, front_over};
+ghost use Rattle.lock_control.specs.Changes.{IsNew, Adds, MayNote, MayVote, EndsOne, EndsAndWakes, Wakes, Votes, comes_after, version_after, wake_for};
 
 use crate::lines::{Lines, Waiter};
-use crate::parts::{Part, Parts};
 use crate::requests::Request;
 use control_core::PrepareNoMemory;
 use deneva_base::{
     Answer, Attempt, Key, Keyed, Mode, NoMemory, Number, Row, RowList, TxnId, Vote, Wake, Woken,
 };
 use row_store::Store;
+use shelf::{Shelf, find_row};
 
-/// The rows, the locks, and the attempts, with the number of appended rows for which there is room in the store, and the
-/// number of requests that wait.
+/// The rows and what each attempt has here, the locks, and the number of requests that wait.
 #[derive(Drop)]
 pub(crate) struct Table {
-    pub store: Store,
+    pub shelf: Shelf,
     pub lines: Lines,
-    pub parts: Parts,
-    pub promised: usize,
     pub waiting: usize,
 }
 
 impl Table {
     pub fn new(store: Store) -> Table
-        ensures { IsFresh store result }
+        ensures { IsNew store result }
     {
         let alloc = store.allocator();
         Table {
-            store,
+            shelf: Shelf::new(store),
             lines: Lines::new(alloc),
-            parts: Parts::new(alloc),
-            promised: 0,
             waiting: 0,
-        }
-    }
-
-    /// What an access is granted: the row of its key with its number, and no cells for a Put.
-    pub fn read(&self, key: Key, mode: Mode) -> Result<(Row, Number), NoMemory>
-        ensures { IfOk result (λ r. r ≡ read_in mode (version_at self.now.store key)) }
-    {
-        match self.store.version(key) {
-            Some(version) if mode.is_reading() => Ok((version.row.share()?, version.number)),
-            _ => {
-                let number = Number { n: 0, id: TxnId(0) };
-                Ok((Row::empty(self.store.allocator())?, number))
-            }
         }
     }
 
     /// Grants an access.
     pub fn grant(&mut self, key: Key, asked: Request) -> Result<Answer, NoMemory>
-        ensures answer { IfOk result (λ a. a ≡ Granted (read_in asked.mode (version_at self.old.store key)).0 (read_in asked.mode (version_at self.old.store key)).1 0) }
+        ensures answer { IfOk result (λ a. a ≡ Granted (read_in asked.mode (version_at self.old.shelf.store key)).0 (read_in asked.mode (version_at self.old.shelf.store key)).1 0) }
         ensures ok { OnOk result (Adds key asked 0 self.old self.new) }
-        ensures err { OnErr result (MayNote asked.who key self.old self.new) }
+        ensures err { OnErr result (MayNote asked.who asked.stamp key self.old self.new) }
     {
-        let (row, version) = self.read(key, asked.mode)?;
-        self.parts.note(asked.who, key)?;
+        let (row, version) = self.shelf.read(key, asked.mode)?;
+        self.shelf.note(asked.who, asked.stamp, key)?;
         self.lines.add(key, asked)?;
         Ok(Answer::Granted {
             row,
@@ -82,13 +66,13 @@ impl Table {
         requires few { self.old.waiting < 2 ^ 63 }
         ensures answer { IfOk result (λ a. a ≡ Waits) }
         ensures ok { OnOk result (Adds key (waiting asked) 1 self.old self.new) }
-        ensures err { OnErr result (MayNote asked.who key self.old self.new) }
+        ensures err { OnErr result (MayNote asked.who asked.stamp key self.old self.new) }
     {
         let asked = Request {
             waits: true,
             ..asked
         };
-        self.parts.note(asked.who, key)?;
+        self.shelf.note(asked.who, asked.stamp, key)?;
         self.lines.add(key, asked)?;
         self.waiting += 1;
         Ok(Answer::Waits)
@@ -96,12 +80,9 @@ impl Table {
 
     /// The greatest number under which an attempt committed that had an access in conflict with one of this attempt.
     pub fn floor(&self, who: Attempt) -> u64
-        ensures { result ≡ greatest_by (λ key. floor_at who (locks_at self.now.lines key)) (holding_at self.now.parts who).keys }
+        ensures { result ≡ greatest_by (λ key. floor_at who (locks_at self.now.lines key)) (held self.now.shelf who).keys }
     {
-        match self.parts.get(who) {
-            Some(part) => self.lines.floor_over(&part.keys, who),
-            None => 0,
-        }
+        self.lines.floor_over(self.shelf.keys(who), who)
     }
 
     /// Votes, and takes the memory for the rows.
@@ -111,39 +92,29 @@ impl Table {
         writes: RowList,
         appends: RowList,
     ) -> Result<Vote, PrepareNoMemory>
-        requires small { greatest_by (λ key. floor_at who (locks_at self.old.lines key)) (holding_at self.old.parts who).keys < 2 ^ 48 }
-        ensures vote { IfOk result (λ v. v ≡ Yes (1 + greatest_by (λ key. floor_at who (locks_at self.old.lines key)) (holding_at self.old.parts who).keys) (2 ^ 63)) }
-        ensures ok { OnOk result (Promises who writes appends self.old self.new) }
-        ensures err { OnErr result (MayReserve self.old self.new) }
+        requires small { greatest_by (λ key. floor_at who (locks_at self.old.lines key)) (held self.old.shelf who).keys < 2 ^ 48 }
+        ensures vote { IfOk result (λ v. v ≡ Yes (1 + greatest_by (λ key. floor_at who (locks_at self.old.lines key)) (held self.old.shelf who).keys) (2 ^ 63)) }
+        ensures ok { OnOk result (Votes who writes appends self.old self.new) }
+        ensures err { OnErr result (MayVote self.old self.new) }
         ensures returned { IfErr result (λ e. (e.writes ≡ writes) × (e.appends ≡ appends)) }
     {
         let lo = 1 + self.floor(who);
-        let Some(promised) = self.promised.checked_add(appends.len()) else {
-            return Err(PrepareNoMemory { writes, appends });
-        };
-        if self.store.reserve(promised).is_err() {
-            return Err(PrepareNoMemory { writes, appends });
-        }
-        self.parts.promise(who, writes, appends)?;
-        self.promised = promised;
+        self.shelf.promise(who, writes, appends)?;
         Ok(Vote::Yes { lo, hi: 1 << 63 })
     }
 
     /// The requests that wait and are to be granted when an attempt ends.
     pub fn front(&self, ended: Attempt) -> Result<Vec<Waiter>, NoMemory>
-        ensures { IfOk result (λ front. front.items ≡ front_over ended self.now.lines (holding_at self.now.parts ended).keys) }
+        ensures { IfOk result (λ front. front.items ≡ front_over ended self.now.lines (held self.now.shelf ended).keys) }
     {
-        match self.parts.get(ended) {
-            Some(part) => self.lines.front(&part.keys, ended),
-            None => Ok(Vec::new(self.store.allocator())),
-        }
+        self.lines.front(self.shelf.keys(ended), ended)
     }
 
     /// Whether the number is above that of the key's row.
     fn comes_after(&self, key: Key, number: Number) -> bool
-        ensures { result ≡ comes_after number (version_at self.now.store key) }
+        ensures { result ≡ comes_after number (version_at self.now.shelf.store key) }
     {
-        match self.store.version(key) {
+        match self.shelf.version(key) {
             Some(version) => version.number < number,
             None => true,
         }
@@ -157,13 +128,13 @@ impl Table {
         number: Option<Number>,
         rows: &[Keyed],
     ) -> Result<(Row, Number), NoMemory>
-        ensures { IfOk result (λ r. r ≡ read_in mode (version_after number (row_for key rows.now) (version_at self.now.store key))) }
+        ensures { IfOk result (λ r. r ≡ read_in mode (version_after number (row_for key rows.now) (version_at self.now.shelf.store key))) }
     {
         match (number, find_row(rows, key)) {
             (Some(number), Some(row)) if mode.is_reading() && self.comes_after(key, number) => {
                 Ok((row.share()?, number))
             }
-            _ => self.read(key, mode),
+            _ => self.shelf.read(key, mode),
         }
     }
 
@@ -174,9 +145,9 @@ impl Table {
         number: Option<Number>,
         rows: &[Keyed],
     ) -> Result<Woken, NoMemory>
-        ensures { IfOk result (λ wakes. wakes ≡ map (wake_for self.now.store number rows.now) front.now) }
+        ensures { IfOk result (λ wakes. wakes ≡ map (wake_for self.now.shelf.store number rows.now) front.now) }
     {
-        let mut wakes = Woken::new(self.store.allocator());
+        let mut wakes = Woken::new(self.shelf.allocator());
         for waiter in front {
             let (row, version) = self.read_after(waiter.key, waiter.mode, number, rows)?;
             wakes.push(Wake {
@@ -197,12 +168,9 @@ impl Table {
         ended: Attempt,
         number: Option<Number>,
     ) -> Result<Woken, NoMemory>
-        ensures { IfOk result (λ wakes. wakes ≡ map (wake_for self.now.store number (holding_at self.now.parts ended).writes) front.now) }
+        ensures { IfOk result (λ wakes. wakes ≡ map (wake_for self.now.shelf.store number (held self.now.shelf ended).writes) front.now) }
     {
-        match self.parts.get(ended) {
-            Some(part) => self.wakes_of(front, number, part.writes.as_slice()),
-            None => self.wakes_of(front, number, &[]),
-        }
+        self.wakes_of(front, number, self.shelf.writes(ended))
     }
 
     /// Grants these requests.
@@ -216,12 +184,9 @@ impl Table {
 
     /// Whether no request is to be granted when an attempt ends.
     fn is_idle(&self, ended: Attempt) -> bool
-        ensures { result ≡ none (front_over ended self.now.lines (holding_at self.now.parts ended).keys) }
+        ensures { result ≡ none (front_over ended self.now.lines (held self.now.shelf ended).keys) }
     {
-        match self.parts.get(ended) {
-            Some(part) => self.lines.is_idle(&part.keys, ended),
-            None => true,
-        }
+        self.lines.is_idle(self.shelf.keys(ended), ended)
     }
 
     /// Ends an attempt as `end` does, and grants who waited for it: their wakes are put at the end of `woken`. Where
@@ -232,15 +197,15 @@ impl Table {
         number: Option<Number>,
         woken: &mut Woken,
     ) -> Result<(), NoMemory>
-        requires present { (w : Keyed) → IsIn w (holding_at self.old.parts who).writes → has self.old.store w.key ≡ true }
-        requires promised { length (holding_at self.old.parts who).appends ≤ self.old.promised }
-        requires room { self.old.promised ≤ self.old.store.spare }
-        requires few { length (front_over who self.old.lines (holding_at self.old.parts who).keys) ≤ self.old.waiting }
-        ensures woken { OnOk result (woken.new ≡ woken.old ++ map (wake_for self.old.store number (holding_at self.old.parts who).writes) (front_over who self.old.lines (holding_at self.old.parts who).keys)) }
-        ensures ok { OnOk result (EndsAndWakes who number (front_over who self.old.lines (holding_at self.old.parts who).keys) self.old self.new) }
+        requires present { (w : Keyed) → IsIn w (held self.old.shelf who).writes → has self.old.shelf.store w.key ≡ true }
+        requires promised { length (held self.old.shelf who).appends ≤ self.old.shelf.promised }
+        requires room { self.old.shelf.promised ≤ self.old.shelf.store.spare }
+        requires few { length (front_over who self.old.lines (held self.old.shelf who).keys) ≤ self.old.waiting }
+        ensures woken { OnOk result (woken.new ≡ woken.old ++ map (wake_for self.old.shelf.store number (held self.old.shelf who).writes) (front_over who self.old.lines (held self.old.shelf who).keys)) }
+        ensures ok { OnOk result (EndsAndWakes who number (front_over who self.old.lines (held self.old.shelf who).keys) self.old self.new) }
         ensures err { OnErr result (self.new ≡ self.old) }
         ensures same_woken { OnErr result (woken.new ≡ woken.old) }
-        ensures idle { front_over who self.old.lines (holding_at self.old.parts who).keys ≡ [] → IsOk result }
+        ensures idle { front_over who self.old.lines (held self.old.shelf who).keys ≡ [] → IsOk result }
     {
         if self.is_idle(who) {
             self.end(who, number);
@@ -256,58 +221,12 @@ impl Table {
 
     /// Ends an attempt, which commits where it has a number: its rows are written, and its requests are taken out.
     pub fn end(&mut self, who: Attempt, number: Option<Number>)
-        requires present { (w : Keyed) → IsIn w (holding_at self.old.parts who).writes → has self.old.store w.key ≡ true }
-        requires promised { length (holding_at self.old.parts who).appends ≤ self.old.promised }
-        requires room { self.old.promised ≤ self.old.store.spare }
-        ensures { Ends who number self.old self.new }
+        requires present { (w : Keyed) → IsIn w (held self.old.shelf who).writes → has self.old.shelf.store w.key ≡ true }
+        requires promised { length (held self.old.shelf who).appends ≤ self.old.shelf.promised }
+        requires room { self.old.shelf.promised ≤ self.old.shelf.store.spare }
+        ensures { EndsOne who number self.old self.new }
     {
-        let Some(part) = self.parts.take(who) else {
-            return;
-        };
-        let Part {
-            keys,
-            writes,
-            appends,
-        } = part;
-        self.promised -= appends.len();
-        if let Some(number) = number {
-            write_rows(&mut self.store, number, writes);
-            append_rows(&mut self.store, number, appends);
-        }
-        self.lines.end_all(&keys, who, number);
-    }
-}
-
-/// The row of a key.
-fn find_row(rows: &[Keyed], key: Key) -> Option<&Row>
-    ensures { option_map (λ r. r.now) result ≡ row_for key rows.now }
-{
-    for keyed in rows {
-        if keyed.key == key {
-            return Some(&keyed.row);
-        }
-    }
-    None
-}
-
-/// Writes rows whose keys are present.
-fn write_rows(store: &mut Store, number: Number, rows: RowList)
-    requires present { (w : Keyed) → IsIn w rows → has store.old w.key ≡ true }
-    ensures versions { (key : Key) → version_at store.new key ≡ offered number rows key (version_at store.old key) }
-    ensures spare { store.new.spare ≡ store.old.spare }
-{
-    for Keyed { key, row } in rows.into_vec() {
-        store.put_at(key, number, row);
-    }
-}
-
-/// Appends rows, for which there is room.
-fn append_rows(store: &mut Store, number: Number, rows: RowList)
-    requires room { length rows ≤ store.old.spare }
-    ensures versions { (key : Key) → version_at store.new key ≡ offered number rows key (version_at store.old key) }
-    ensures spare { store.old.spare ≤ store.new.spare + length rows }
-{
-    for Keyed { key, row } in rows.into_vec() {
-        store.append(key, number, row);
+        let ended = self.shelf.end(who, number);
+        self.lines.end_all(&ended.keys, who, number);
     }
 }

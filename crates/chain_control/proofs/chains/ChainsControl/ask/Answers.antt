@@ -3,7 +3,8 @@ use Rattle.std.proofs.lemmas.Result.{on_err_weaker, IfOk-weaker}
 use Rattle.protocol_rules.specs.History.{Ask}
 use Rattle.deneva_base.specs.declared.answers.Answer.{Answer}
 use Rattle.chain_control.specs.Standing.{Stands}
-use Rattle.chain_control.proofs.Outcomes.{both, err_gives}
+use Rattle.shelf.proofs.Closing.{both}
+use Rattle.chain_control.proofs.Lists.{err_gives}
 use Rattle.chain_control.proofs.Asks.{opened_stands, stays_stands, noted_stands, opened_there, few_wait, refused_so, refused_stands, waits_so, waits_stands, grants_so, grants_stands}
 use Rattle.chain_control.proofs.chains.ChainsControl.ask.Goals as goal
 
@@ -48,7 +49,7 @@ returns-then-is_stopped-clause-stands g c =
 pub returns-then-is_stopped-clause-same : goal.returns-then-is_stopped-clause-same
 returns-then-is_stopped-clause-same g c =
     on_err_weaker c.wait.result (λ e loaded h stands.
-    noted_stands g.row.KEEP c.open.new.self loaded h (opened_stands g.row.KEEP c.args.self.now.table loaded h stands c.args.key c.open.new.self c.in_ok-open.ensures.ok) c.args.who c.args.key c.wait.new.self e) c.wait.ensures.err
+    noted_stands g.row.KEEP c.open.new.self loaded h (opened_stands g.row.KEEP c.args.self.now.table loaded h stands c.args.key c.open.new.self c.in_ok-open.ensures.ok) c.args.who c.args.stamp c.args.key c.wait.new.self e) c.wait.ensures.err
 
 pub returns-else-is_stopped-clause-answer : goal.returns-else-is_stopped-clause-answer
 returns-else-is_stopped-clause-answer g c =
@@ -70,4 +71,4 @@ returns-else-is_stopped-clause-stands g c =
 pub returns-else-is_stopped-clause-same : goal.returns-else-is_stopped-clause-same
 returns-else-is_stopped-clause-same g c =
     on_err_weaker c.grant.result (λ e loaded h stands.
-    noted_stands g.row.KEEP c.open.new.self loaded h (opened_stands g.row.KEEP c.args.self.now.table loaded h stands c.args.key c.open.new.self c.in_ok-open.ensures.ok) c.args.who c.args.key c.grant.new.self e) c.grant.ensures.err
+    noted_stands g.row.KEEP c.open.new.self loaded h (opened_stands g.row.KEEP c.args.self.now.table loaded h stands c.args.key c.open.new.self c.in_ok-open.ensures.ok) c.args.who c.args.stamp c.args.key c.grant.new.self e) c.grant.ensures.err

@@ -2,15 +2,17 @@ use Rattle.std.proofs.Common.{◌++◌, ◌∙◌, ap, arith, List, length}
 use Rattle.std.proofs.lemmas.List.{nil_from_length}
 use Rattle.std.proofs.lemmas.Result.{on_ok_weaker}
 use Rattle.protocol_rules.specs.History.{Asked}
+use Rattle.protocol_rules.specs.Mvcc.{mvcc}
+use Rattle.shelf.proofs.Versions.{present, promised}
 use Rattle.chain_control.proofs.Places.{nil_from_map}
-use Rattle.chain_control.proofs.Calls.{present, promised, commit_few, commit_wakes, commit_stands}
+use Rattle.chain_control.proofs.Calls.{wakes, commit_few, commit_wakes, commit_stands}
 use Rattle.chain_control.proofs.chains.ChainsControl.commit.Goals as goal
 
 pub end_and_wake-requires-clause-present : goal.end_and_wake-requires-clause-present
-end_and_wake-requires-clause-present g c = let m = c.requires.may in present g.row.KEEP c.args.self.now.table m.0 m.1 m.2 c.args.who m.3.unended
+end_and_wake-requires-clause-present g c = let m = c.requires.may in present (mvcc g.row.KEEP m.0) m.2.tracks.kept m.2.obeys (wakes g.row.KEEP c.args.self.now.table m.0 m.1 m.2) c.args.who m.3.unended
 
 pub end_and_wake-requires-clause-promised : goal.end_and_wake-requires-clause-promised
-end_and_wake-requires-clause-promised g c = let m = c.requires.may in promised g.row.KEEP c.args.self.now.table m.0 m.1 m.2 c.args.who m.3.unended
+end_and_wake-requires-clause-promised g c = let m = c.requires.may in promised (mvcc g.row.KEEP m.0) m.2.tracks.kept m.2.obeys c.args.who m.3.unended
 
 pub end_and_wake-requires-clause-few : goal.end_and_wake-requires-clause-few
 end_and_wake-requires-clause-few g c = let m = c.requires.may in commit_few g.row.KEEP c.args.self.now.table m.0 m.1 m.2 c.args.who c.args.number m.3

@@ -3,7 +3,7 @@ use Rattle.std.proofs.lemmas.Result.{on_err_weaker, IfOk-weaker}
 use Rattle.protocol_rules.specs.History.{Prepare}
 use Rattle.deneva_base.specs.declared.answers.Vote.{Vote}
 use Rattle.chain_control.specs.Standing.{Stands}
-use Rattle.chain_control.proofs.Outcomes.{both}
+use Rattle.shelf.proofs.Closing.{both}
 use Rattle.chain_control.proofs.Asks.{votes_so, votes_stands, reserved_stands}
 use Rattle.chain_control.proofs.chains.ChainsControl.prepare.Goals as goal
 

@@ -5,7 +5,7 @@ use Rattle.deneva_base.specs.declared.answers.Answer.{Answer}
 use Rattle.deneva_base.specs.declared.causes.Cause.TheVariants.{Held}
 use Rattle.protocol_rules.specs.NoWait.{no_wait}
 use Rattle.lock_control.specs.Standing.{Tracks, state_of}
-use Rattle.lock_control.proofs.Outcomes.{both}
+use Rattle.shelf.proofs.Closing.{both}
 use Rattle.lock_control.proofs.Asking.{ask_refused}
 use Rattle.lock_control.proofs.Ending.{only_noted}
 use Rattle.lock_control.proofs.Calls.{granted_tracks, knows, sounds, traces}
@@ -41,4 +41,4 @@ returns-in-None-clause-stands c =
 
 pub returns-in-None-clause-same : goal.returns-in-None-clause-same
 returns-in-None-clause-same c =
-    on_err_weaker c.grant.result (λ e loaded h stands. record { obeys = stands.obeys; tracks = only_noted loaded h c.args.who c.args.key c.args.self.now.table c.grant.new.self stands.tracks e }) c.grant.ensures.err
+    on_err_weaker c.grant.result (λ e loaded h stands. record { obeys = stands.obeys; tracks = only_noted loaded h c.args.who c.args.stamp c.args.key c.args.self.now.table c.grant.new.self stands.tracks e }) c.grant.ensures.err

@@ -6,7 +6,7 @@ use Rattle.deneva_base.specs.declared.causes.Cause.TheVariants.{Younger}
 use Rattle.protocol_rules.specs.WaitDie.{wait_die}
 use Rattle.protocol_rules.proofs.WaitDies.{wait_die_wakes}
 use Rattle.lock_control.specs.Standing.{Tracks, state_of}
-use Rattle.lock_control.proofs.Outcomes.{both}
+use Rattle.shelf.proofs.Closing.{both}
 use Rattle.lock_control.proofs.Asking.{ask_refused}
 use Rattle.lock_control.proofs.Ending.{only_noted}
 use Rattle.lock_control.proofs.Calls.{granted_tracks, waiting_tracks, knows, sounds, traces}
@@ -45,7 +45,7 @@ returns-then-is_stopped-clause-stands c =
 
 pub returns-then-is_stopped-clause-same : goal.returns-then-is_stopped-clause-same
 returns-then-is_stopped-clause-same c =
-    on_err_weaker c.wait.result (λ e loaded h stands. record { obeys = stands.obeys; tracks = only_noted loaded h c.args.who c.args.key c.args.self.now.table c.wait.new.self stands.tracks e }) c.wait.ensures.err
+    on_err_weaker c.wait.result (λ e loaded h stands. record { obeys = stands.obeys; tracks = only_noted loaded h c.args.who c.args.stamp c.args.key c.args.self.now.table c.wait.new.self stands.tracks e }) c.wait.ensures.err
 
 pub returns-else-is_stopped-clause-answer : goal.returns-else-is_stopped-clause-answer
 returns-else-is_stopped-clause-answer c =
@@ -64,4 +64,4 @@ returns-else-is_stopped-clause-stands c =
 
 pub returns-else-is_stopped-clause-same : goal.returns-else-is_stopped-clause-same
 returns-else-is_stopped-clause-same c =
-    on_err_weaker c.grant.result (λ e loaded h stands. record { obeys = stands.obeys; tracks = only_noted loaded h c.args.who c.args.key c.args.self.now.table c.grant.new.self stands.tracks e }) c.grant.ensures.err
+    on_err_weaker c.grant.result (λ e loaded h stands. record { obeys = stands.obeys; tracks = only_noted loaded h c.args.who c.args.stamp c.args.key c.args.self.now.table c.grant.new.self stands.tracks e }) c.grant.ensures.err

@@ -5,4 +5,4 @@ use Rattle.lock_control.proofs.requests.Line.is_idle.Given as goal
 
 -- those that are left lead to the same
 abbrev pub invariant-loop-request : goal.invariant-loop-request
-invariant-loop-request l = none (front_of l.ended l.self.requests.items [] (drop l.request-index l.self.requests.items)) ≡ none (front_of l.ended l.self.requests.items [] l.self.requests.items)
+invariant-loop-request l = none (front_of l.ended l.self.requests [] (drop l.request-index l.self.requests)) ≡ none (front_of l.ended l.self.requests [] l.self.requests)
