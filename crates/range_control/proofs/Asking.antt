@@ -1,7 +1,5 @@
 -- The table tracks the history with one more Ask.
-use Rattle.std.proofs.Common.{◌≡◌, ◌≢◌, ◌⊎◌, ℕ, suc, ◌-◌, List, [], ◌∷◌, ◌++◌, map, filter, reverse, Bool, true, false, ◌&&◌, ◌||◌, cond, refl, sym, ap, ◌∙◌, subst, inl, inr, ⊎_elim, arith, Option, Some, None, option_map}
-use Rattle.std.specs.List.{list_any}
-use Rattle.std.specs.FinMap.{get}
+use Rattle.std.proofs.Common.{◌≡◌, ◌≢◌, ◌⊎◌, ℕ, suc, ◌-◌, List, [], ◌∷◌, ◌++◌, map, filter, reverse, Bool, true, false, ◌&&◌, ◌||◌, cond, refl, sym, ap, ◌∙◌, subst, inl, inr, ⊎_elim, Option, Some, None}
 use Rattle.std.proofs.lemmas.List.{map-append, append-nil}
 use Rattle.std.proofs.lemmas.List.Elements.{filter-append}
 use Rattle.deneva_base.specs.declared.keys.Key.{Key}
@@ -12,72 +10,27 @@ use Rattle.deneva_base.specs.declared.answers.Answer.TheVariants.{Granted}
 use Rattle.deneva_base.specs.Lists.{IsIn, greatest_by}
 use Rattle.deneva_base.specs.Rows.{Row, Rows}
 use Rattle.deneva_base.specs.Modes.{reads}
-use Rattle.deneva_base.specs.Keys.{key_eq, attempt_eq, number_lt, loaded_version}
+use Rattle.deneva_base.specs.Keys.{key_eq, number_lt, loaded_version}
 use Rattle.protocol_rules.specs.Conditions.{MayAsk}
 use Rattle.protocol_rules.specs.History.{Ask, History, Grant, Yea, Decided, grants, yeas, decided, ended, closed}
 use Rattle.protocol_rules.specs.Latest.{Version, latest, seen}
 use Rattle.protocol_rules.specs.Ranged.{wrote, accessed, past_committed}
-use Rattle.deneva_base.proofs.Membership.{any_found, in_left, in_right, key_decides, key_tells, attempt_tells}
+use Rattle.deneva_base.proofs.Membership.{key_decides, key_tells, attempt_tells}
 use Rattle.protocol_rules.proofs.Unended.{not_ended}
 use Rattle.protocol_rules.proofs.Sound.{Sound}
-use Rattle.row_store.specs.Stores.{version_at}
 use Rattle.range_control.specs.declared.ends.Upper.{Upper}
 use Rattle.range_control.specs.declared.table.Table.{Table}
 use Rattle.range_control.specs.Ends.{upper_before, first_of, first_by}
-use Rattle.range_control.specs.Accesses.{Accesses, with_access}
-use Rattle.range_control.specs.Tables.{same_key}
-use Rattle.range_control.specs.Holdings.{Holding, put_key, with_key}
-use Rattle.range_control.specs.Changes.{new_access, Adds, MayNote, MayReserve}
-use Rattle.range_control.specs.Standing.{State, state_of, is_held, held_here, window_in, under_decided, held_of, Tracks, version_of}
-use Rattle.range_control.proofs.Places.{same_tells}
+use Rattle.range_control.specs.Seen.{Accesses}
+use Rattle.range_control.specs.Accesses.{with_access}
+use Rattle.range_control.specs.Tables.{accesses_at}
+use Rattle.range_control.specs.Changes.{new_access, Adds, MayNote, MayVote}
+use Rattle.range_control.specs.Standing.{State, state_of, is_held, held_here, window_in, under_decided, held_of, Tracks}
+use Rattle.key_table.specs.Keys.{same_key}
+use Rattle.key_table.proofs.Places.{same_tells, at_place}
+use Rattle.shelf.proofs.Keeps.{keeps_granted, keeps_noted, keeps_reserved}
 use Rattle.range_control.proofs.Lists.{greatest_same}
 use Rattle.range_control.proofs.Holders.{reverse-cons, reverse_in}
-
--- at the key and elsewhere
-pub at_key : (key k : Key) (l a b : Accesses) → l ≡ cond (same_key key k) a b → ((key ≡ k) × (l ≡ a)) ⊎ ((key ≢ k) × (l ≡ b))
-at_key key k l a b e = ⊎_elim (λ t. inl (t.1, e ∙ ap (λ x. cond x a b) t.0)) (λ f. inr (f.1, e ∙ ap (λ x. cond x a b) f.0)) (same_tells key k)
-
-pub at_who : (who w : Attempt) (l a b : Holding) → l ≡ cond (attempt_eq who w) a b → ((who ≡ w) × (l ≡ a)) ⊎ ((who ≢ w) × (l ≡ b))
-at_who who w l a b e = ⊎_elim (λ t. inl (t.1, e ∙ ap (λ x. cond x a b) t.0)) (λ f. inr (f.1, e ∙ ap (λ x. cond x a b) f.0)) (attempt_tells who w)
-
--- the keys with one more
-put_has : (key : Key) (ks : List Key) → IsIn key (put_key key ks)
-put_has key ks = go (list_any (λ k. key_eq k key) ks) refl
-  where
-    go : (b : Bool) → list_any (λ k. key_eq k key) ks ≡ b → IsIn key (cond b ks (ks ++ key ∷ []))
-    go true e = let f = any_found (λ k. key_eq k key) ks e in subst (λ k. IsIn k ks) ((key_decides f.0 key).0 f.2) f.1
-    go false e = in_right key ks (key ∷ []) (inl refl)
-
-put_keeps : (key k : Key) (ks : List Key) → IsIn k ks → IsIn k (put_key key ks)
-put_keeps key k ks i = go (list_any (λ x. key_eq x key) ks)
-  where
-    go : (b : Bool) → IsIn k (cond b ks (ks ++ key ∷ []))
-    go true = i
-    go false = in_left k ks (key ∷ []) i
-
--- what a note of one key changes for an attempt
-pub record Noted (who : Attempt) (key : Key) (s s' : State) : Type 0 where
-  pub keys : (w : Attempt) (k : Key) → IsIn k (s.holding w).keys → IsIn k (s'.holding w).keys
-  pub mine : IsIn key (s'.holding who).keys
-  pub writes : (w : Attempt) → (s'.holding w).writes ≡ (s.holding w).writes
-  pub appends : (w : Attempt) → (s'.holding w).appends ≡ (s.holding w).appends
-
-pub noted : (who : Attempt) (key : Key) (s s' : State) → ((w : Attempt) → s'.holding w ≡ cond (attempt_eq who w) (with_key key (s.holding who)) (s.holding w)) → Noted who key s s'
-noted who key s s' h = record {
-  keys = λ w k i. ⊎_elim
-      (λ t. subst (λ (p : Holding). IsIn k p.keys) (sym t.1) (put_keeps key k (s.holding who).keys (subst (λ q. IsIn k (s.holding q).keys) (sym t.0) i)))
-      (λ e. subst (λ (p : Holding). IsIn k p.keys) (sym e.1) i)
-      (cases w);
-  mine = ⊎_elim
-      (λ t. subst (λ (p : Holding). IsIn key p.keys) (sym t.1) (put_has key (s.holding who).keys))
-      (λ e. absurd (e.0 refl))
-      (cases who);
-  writes = λ w. ⊎_elim (λ t. ap (λ (p : Holding). p.writes) t.1 ∙ ap (λ q. (s.holding q).writes) t.0) (λ e. ap (λ (p : Holding). p.writes) e.1) (cases w);
-  appends = λ w. ⊎_elim (λ t. ap (λ (p : Holding). p.appends) t.1 ∙ ap (λ q. (s.holding q).appends) t.0) (λ e. ap (λ (p : Holding). p.appends) e.1) (cases w);
-}
-  where
-    cases : (w : Attempt) → ((who ≡ w) × (s'.holding w ≡ with_key key (s.holding who))) ⊎ ((who ≢ w) × (s'.holding w ≡ s.holding w))
-    cases w = at_who who w (s'.holding w) (with_key key (s.holding who)) (s.holding w) (h w)
 
 first_nothing : {X A : Type 0} (before : A → A → Bool) (f : X → Option A) (best : Option A) (xs : List X) → ((x : X) → IsIn x xs → f x ≡ None) → first_by before f best xs ≡ best
 first_nothing before f best [] n = refl
@@ -137,13 +90,12 @@ module _ (loaded : Rows) (h : History) (sound : Sound loaded h) (who : Attempt) 
         (λ f. ap (λ b. cond ((b && key_eq key k) || accessed h d.who k) (suc d.number.n) 0) f.0)
         (attempt_tells who d.who))
 
-    pub ask_tracks : (old new : Table) → Tracks loaded (state_of old) h → Adds key (new_access who mode version) old new → Tracks loaded (state_of new) after
+    pub ask_tracks : (old new : Table) → Tracks loaded (state_of old) h → Adds stamp key (new_access who mode version) old new → Tracks loaded (state_of new) after
     ask_tracks old new t c =
         let s : State = state_of old in
         let s' : State = state_of new in
-        let n = noted who key s s' c.parts in
         let cases : (k : Key) → ((key ≡ k) × (s'.lines k ≡ with_access (new_access who mode version) (s.lines key))) ⊎ ((key ≢ k) × (s'.lines k ≡ s.lines k)) =
-        λ k. at_key key k (s'.lines k) (with_access (new_access who mode version) (s.lines key)) (s.lines k) (c.lines k) in
+        λ k. at_place same_key same_tells key k (s'.lines k) (with_access (new_access who mode version) (s.lines key)) (s.lines k) (c.lines k) in
         record {
           held = λ k. ⊎_elim
               (λ x.
@@ -164,15 +116,7 @@ module _ (loaded : Rows) (h : History) (sound : Sound loaded h) (who : Attempt) 
               (λ x. ap (λ (l : Accesses). l.past) x.1 ∙ ap (λ q. (s.lines q).past) x.0 ∙ t.past k ∙ sym (past_stays k))
               (λ x. ap (λ (l : Accesses). l.past) x.1 ∙ t.past k ∙ sym (past_stays k))
               (cases k);
-          noted = λ g i u. ⊎_elim
-              (λ (e : g ≡ mine). subst (λ (x : Grant). IsIn x.key (s'.holding x.who).keys) (sym e) n.mine)
-              (λ j. n.keys g.who g.key (t.noted g j u))
-              i;
-          rows = λ w u. let o = t.rows w u in (n.writes w ∙ o.0, n.appends w ∙ o.1);
-          tables = t.tables;
-          versions = λ k. ap (λ x. option_map version_of (version_at x k)) c.store ∙ t.versions k;
-          promised = c.promised ∙ t.promised;
-          room = omega (arith, t.room, c.promised, ap (λ x. x.spare) c.store);
+          kept = keeps_granted t.kept c.shelf;
           voted = c.voted ∙ t.voted;
         }
       where
@@ -180,38 +124,18 @@ module _ (loaded : Rows) (h : History) (sound : Sound loaded h) (who : Attempt) 
         apart k n = ⊎_elim (λ t. absurd (n t.1)) (λ f. f.0) (key_tells key k)
 
 -- what is only noted, or only reserved, changes nothing that is tracked
-pub reserved : (loaded : Rows) (h : History) (old new : Table) → Tracks loaded (state_of old) h → MayReserve old new → Tracks loaded (state_of new) h
-reserved loaded h old new t c =
-    let s : State = state_of old in
-    let s' : State = state_of new in
-    record {
-      held = λ k. ap (λ (l : Accesses). l.held) (c.lines k) ∙ t.held k;
-      past = λ k. ap (λ (l : Accesses). l.past) (c.lines k) ∙ t.past k;
-      noted = λ g i u. subst (λ (l : Holding). IsIn g.key l.keys) (sym (c.parts g.who)) (t.noted g i u);
-      rows = λ w u. let o = t.rows w u in (ap (λ (l : Holding). l.writes) (c.parts w) ∙ o.0, ap (λ (l : Holding). l.appends) (c.parts w) ∙ o.1);
-      tables = t.tables;
-      versions = λ k. ap (λ m. option_map version_of (get m k)) c.versions ∙ t.versions k;
-      promised = c.promised ∙ t.promised;
-      room = omega (arith, t.room, c.promised, c.room);
-      voted = c.voted ∙ t.voted;
-    }
+pub reserved : (loaded : Rows) (h : History) (old new : Table) → Tracks loaded (state_of old) h → MayVote old new → Tracks loaded (state_of new) h
+reserved loaded h old new t c = record {
+  held = λ k. ap (λ x. (accesses_at x k).held) c.lines ∙ t.held k;
+  past = λ k. ap (λ x. (accesses_at x k).past) c.lines ∙ t.past k;
+  kept = keeps_reserved t.kept c.shelf;
+  voted = c.voted ∙ t.voted;
+}
 
-pub only_noted : (loaded : Rows) (h : History) (who : Attempt) (key : Key) (old new : Table) → Tracks loaded (state_of old) h → MayNote who key old new → Tracks loaded (state_of new) h
-only_noted loaded h who key old new t c = ⊎_elim
-    (λ same. reserved loaded h old new t (record { versions = ap (λ x. x.versions) c.store; lines = c.lines; parts = same; promised = c.promised; room = omega (arith, ap (λ x. x.spare) c.store); voted = c.voted }))
-    (λ sets.
-    let s : State = state_of old in
-    let s' : State = state_of new in
-    let n = noted who key s s' sets in
-    record {
-      held = λ k. ap (λ (l : Accesses). l.held) (c.lines k) ∙ t.held k;
-      past = λ k. ap (λ (l : Accesses). l.past) (c.lines k) ∙ t.past k;
-      noted = λ g i u. n.keys g.who g.key (t.noted g i u);
-      rows = λ w u. let o = t.rows w u in (n.writes w ∙ o.0, n.appends w ∙ o.1);
-      tables = t.tables;
-      versions = λ k. ap (λ x. option_map version_of (version_at x k)) c.store ∙ t.versions k;
-      promised = c.promised ∙ t.promised;
-      room = omega (arith, t.room, c.promised, ap (λ x. x.spare) c.store);
-      voted = c.voted ∙ t.voted;
-    })
-    c.parts
+pub only_noted : (loaded : Rows) (h : History) (who : Attempt) (stamp : ℕ) (key : Key) (old new : Table) → Tracks loaded (state_of old) h → MayNote who stamp key old new → Tracks loaded (state_of new) h
+only_noted loaded h who stamp key old new t c = record {
+  held = λ k. ap (λ (l : Accesses). l.held) (c.lines k) ∙ t.held k;
+  past = λ k. ap (λ (l : Accesses). l.past) (c.lines k) ∙ t.past k;
+  kept = ⊎_elim (λ r. keeps_reserved t.kept r) (λ n. keeps_noted t.kept n) c.shelf;
+  voted = c.voted ∙ t.voted;
+}

@@ -1,5 +1,5 @@
 -- The calls of a table that stands for a history.
-use Rattle.std.proofs.Common.{◌≡◌, ℕ, suc, ◌+◌, ◌^◌, ◌<◌, ◌≤◌, List, [], ◌∷◌, Bool, true, false, not, ◌&&◌, cond, length, refl, ap, ap₂, ◌∙◌, inl, ⊎_elim, arith, Option, Some, None, option_map}
+use Rattle.std.proofs.Common.{◌≡◌, ℕ, suc, ◌+◌, ◌^◌, ◌<◌, ◌≤◌, List, [], ◌∷◌, Bool, true, false, not, ◌&&◌, cond, refl, ap, ◌∙◌, inl, ⊎_elim, arith, Some, None}
 use Rattle.deneva_base.specs.declared.keys.Key.{Key}
 use Rattle.deneva_base.specs.declared.keys.Mode.{Mode}
 use Rattle.deneva_base.specs.declared.numbers.Attempt.{Attempt}
@@ -13,7 +13,6 @@ use Rattle.deneva_base.specs.Rows.{Row, Rows}
 use Rattle.protocol_rules.specs.Conditions.{MayAsk, MayPrepare, MayCommit, MayAbort}
 use Rattle.protocol_rules.specs.History.{Ask, Prepare, Commit, Abort, History, Asked, Grant, Yea, Decided, grants, waits, yeas, decided, IsUnended}
 use Rattle.protocol_rules.specs.Latest.{latest, has_ended, seen}
-use Rattle.protocol_rules.specs.Leaving.{rows_left}
 use Rattle.protocol_rules.specs.Ranged.{accessed, past_committed, past_prepared, grant_latest, low_of, low, under_prepared, high, lo_key, hi_by, window_vote}
 use Rattle.protocol_rules.specs.Maat.{maat, maat_vote}
 use Rattle.protocol_rules.specs.Wakes.{KeepsWakes}
@@ -21,33 +20,33 @@ use Rattle.protocol_rules.proofs.Belows.{greatest_le}
 use Rattle.protocol_rules.proofs.Sound.{Sound, sound}
 use Rattle.protocol_rules.proofs.Known.{Known, known}
 use Rattle.protocol_rules.proofs.Traced.{Traced, traced}
-use Rattle.protocol_rules.proofs.Rangeds.{windows_law, waits_law, wakes_law}
+use Rattle.protocol_rules.proofs.Rangeds.{waits_law, wakes_law}
 use Rattle.protocol_rules.proofs.Maats.{ranging}
 use Rattle.protocol_rules.proofs.Boundeds.{low_le}
-use Rattle.row_store.specs.declared.versions.Version.{Version as StoredVersion}
-use Rattle.row_store.specs.Stores.{version_at, has, row_in}
-use Rattle.control_core.proofs.Lasts.{last_rows}
+use Rattle.row_store.specs.Stores.{version_at}
+use Rattle.shelf.specs.Keeps.{KeepsRows, Apart}
+use Rattle.shelf.specs.Shelves.{read_in}
+use Rattle.shelf.proofs.Versions.{apart, reads_latest, version_is}
 use Rattle.range_control.specs.declared.table.Table.{Table}
 use Rattle.range_control.specs.Accesses.{past_over}
 use Rattle.range_control.specs.Tables.{accesses_at, low_at}
-use Rattle.range_control.specs.Holdings.{holding_at}
-use Rattle.range_control.specs.Changes.{Adds, Votes, Ends, read_in, past_version, bound_in, new_access, lower_for, upper_for}
-use Rattle.range_control.specs.Standing.{state_of, Tracks, Stands, version_of}
-use Rattle.range_control.proofs.Histories.{Apart, InRange, in_range, numbers_small, votes_apart, voted, latest_top, least_most}
+use Rattle.range_control.specs.Changes.{Adds, Votes, EndsOne, past_version, bound_in, new_access, lower_for, upper_for}
+use Rattle.range_control.specs.Standing.{state_of, Tracks, Stands}
+use Rattle.range_control.proofs.Histories.{InRange, in_range, numbers_small, voted, latest_top, least_most}
 use Rattle.range_control.proofs.Holders.{past_is}
 use Rattle.range_control.proofs.Lowering.{low_below, lower_is}
 use Rattle.range_control.proofs.Uppering.{upper_same}
 use Rattle.range_control.proofs.Asking.{ask_tracks}
 use Rattle.range_control.proofs.Preparing.{vote_tracks}
-use Rattle.range_control.proofs.Ending.{promised_less, aborted_tracks, committed_tracks}
-use Rattle.range_control.proofs.Answering.{version_is, is_present, read_is, past_is_of, bound_same}
+use Rattle.range_control.proofs.Ending.{aborted_tracks, committed_tracks}
+use Rattle.range_control.proofs.Answering.{past_is_of, bound_same}
 
 cond_le : (m : ℕ) (b : Bool) (x : ℕ) → x ≤ m → cond b x 0 ≤ m
 cond_le m true x l = l
 cond_le m false x l = omega arith
 
 module _ (span : ℕ) (t : Table) (loaded : Rows) (h : History) (stands : Stands span t loaded h) where
-  wakes : KeepsWakes h
+  pub wakes : KeepsWakes h
   wakes = wakes_law loaded (maat span loaded) (ranging span loaded) h stands.obeys
 
   pub sounds : Sound loaded h
@@ -59,8 +58,11 @@ module _ (span : ℕ) (t : Table) (loaded : Rows) (h : History) (stands : Stands
   pub traces : Traced h
   traces = traced loaded (maat span loaded) h stands.obeys wakes
 
+  abbrev rows : KeepsRows false loaded t.shelf h
+  rows = stands.tracks.kept
+
   votes : Apart (yeas h)
-  votes = votes_apart loaded (maat span loaded) h stands.obeys (λ k o. sound loaded (maat span loaded) k o)
+  votes = apart (maat span loaded) rows stands.obeys
 
   ranges : (y : Yea) → IsIn y (yeas h) → InRange y
   ranges y i = in_range span loaded h y stands.obeys i
@@ -83,11 +85,11 @@ module _ (span : ℕ) (t : Table) (loaded : Rows) (h : History) (stands : Stands
       let b = greatest_le (past_prepared h key) (2 ^ 63 + 1) (yeas h) (λ y i. cond_le (2 ^ 63 + 1) (not (has_ended h y.who) && accessed h y.who key) (suc y.hi) (omega (arith, (ranges y i).high))) in
       omega (arith, past_is loaded h (state_of t) stands.tracks sounds.one key, a, b)
 
-  pub version_small : (key : Key) (row : Row) → loaded key ≡ Some row → past_version (version_at t.store key) < 2 ^ 64
+  pub version_small : (key : Key) (row : Row) → loaded key ≡ Some row → past_version (version_at t.shelf.store key) < 2 ^ 64
   version_small key row e =
-      let v = version_is loaded h knows sounds traces (state_of t) stands.tracks (maat span loaded) key row stands.obeys e in
+      let v = version_is (maat span loaded) rows stands.obeys key row e in
       let n : (latest loaded h key).number.n < 2 ^ 48 = ⊎_elim (λ l. omega (arith, ap (λ z. z.n) l.0)) (λ d. omega (arith, ap (λ z. z.n) d.2, numbers d.0 d.1)) (sounds.found key row e) in
-      omega (arith, past_is_of (version_at t.store key) (latest loaded h key) v, n)
+      omega (arith, past_is_of (version_at t.shelf.store key) (latest loaded h key) v, n)
 
   pub low_small : (who : Attempt) (ws : List Keyed) (key : Key) → IsUnended h who → low_at t.lines who ws key < 2 ^ 64
   low_small who ws key u =
@@ -97,19 +99,19 @@ module _ (span : ℕ) (t : Table) (loaded : Rows) (h : History) (stands : Stands
       omega (arith, a, b)
 
   -- what is granted
-  pub grant_is : (who : Attempt) (stamp : ℕ) (key : Key) (mode : Mode) → MayAsk loaded h who stamp key → Granted (read_in mode (version_at t.store key)).0 (read_in mode (version_at t.store key)).1 (bound_in mode (version_at t.store key) (past_over (accesses_at t.lines key))) ≡ grant_latest loaded h key mode
+  pub grant_is : (who : Attempt) (stamp : ℕ) (key : Key) (mode : Mode) → MayAsk loaded h who stamp key → Granted (read_in mode (version_at t.shelf.store key)).0 (read_in mode (version_at t.shelf.store key)).1 (bound_in mode (version_at t.shelf.store key) (past_over (accesses_at t.lines key))) ≡ grant_latest loaded h key mode
   grant_is who stamp key mode may =
-      let v = version_is loaded h knows sounds traces (state_of t) stands.tracks (maat span loaded) key may.here.0 stands.obeys may.here.1 in
-      let r = read_is mode (version_at t.store key) (latest loaded h key) v in
-      let b = bound_same loaded h key mode (version_at t.store key) (past_over (accesses_at t.lines key)) v (past_is loaded h (state_of t) stands.tracks sounds.one key) in
-      ap₂ (λ row number. Granted row number (bound_in mode (version_at t.store key) (past_over (accesses_at t.lines key)))) r.0 r.1
+      let v = version_is (maat span loaded) rows stands.obeys key may.here.0 may.here.1 in
+      let r = reads_latest (maat span loaded) rows stands.obeys key may.here.0 may.here.1 mode in
+      let b = bound_same loaded h key mode (version_at t.shelf.store key) (past_over (accesses_at t.lines key)) v (past_is loaded h (state_of t) stands.tracks sounds.one key) in
+      ap (λ (x : Row × Number). Granted x.0 x.1 (bound_in mode (version_at t.shelf.store key) (past_over (accesses_at t.lines key)))) r
       ∙ ap (λ n. Granted (seen mode (latest loaded h key)).row (seen mode (latest loaded h key)).number n) b
 
-  pub grant_tracks : (who : Attempt) (stamp : ℕ) (key : Key) (mode : Mode) (bound : ℕ) (new : Table) → MayAsk loaded h who stamp key → Adds key (new_access who mode (read_in mode (version_at t.store key)).1) t new → Tracks loaded (state_of new) (Ask who stamp key mode (Granted (read_in mode (version_at t.store key)).0 (read_in mode (version_at t.store key)).1 bound) ∷ h)
+  pub grant_tracks : (who : Attempt) (stamp : ℕ) (key : Key) (mode : Mode) (bound : ℕ) (new : Table) → MayAsk loaded h who stamp key → Adds stamp key (new_access who mode (read_in mode (version_at t.shelf.store key)).1) t new → Tracks loaded (state_of new) (Ask who stamp key mode (Granted (read_in mode (version_at t.shelf.store key)).0 (read_in mode (version_at t.shelf.store key)).1 bound) ∷ h)
   grant_tracks who stamp key mode bound new may c =
-      let v = version_is loaded h knows sounds traces (state_of t) stands.tracks (maat span loaded) key may.here.0 stands.obeys may.here.1 in
+      let r = ap (λ (x : Row × Number). x.1) (reads_latest (maat span loaded) rows stands.obeys key may.here.0 may.here.1 mode) in
       ask_tracks loaded h sounds who stamp key mode may (λ d i w. latest_top loaded (maat span loaded) h d key stands.obeys i w)
-      (read_in mode (version_at t.store key)).0 (read_in mode (version_at t.store key)).1 bound (read_is mode (version_at t.store key) (latest loaded h key) v).1 t new stands.tracks c
+      (read_in mode (version_at t.shelf.store key)).0 (read_in mode (version_at t.shelf.store key)).1 bound r t new stands.tracks c
 
   module _ (who : Attempt) (bound : Bound) (writes appends : List Keyed) (may : MayPrepare h who bound writes appends) where
     upper_end_is : upper_for t who ≡ record { n = high h who; by = hi_by h who (high h who) }
@@ -127,26 +129,8 @@ module _ (span : ℕ) (t : Table) (loaded : Rows) (h : History) (stands : Stands
     pub prepare_tracks : (vote : Vote) (new : Table) → Votes vote who writes appends t new → Tracks loaded (state_of new) (Prepare who bound writes appends vote ∷ h)
     prepare_tracks vote new c = vote_tracks loaded h sounds who bound writes appends may vote t new stands.tracks c
 
-  -- what the end of an attempt asks of the table
-  pub present : (who : Attempt) → IsUnended h who → (w : Keyed) → IsIn w (holding_at t.parts who).writes → has t.store w.key ≡ true
-  present who u w i = is_present loaded h knows sounds traces (state_of t) stands.tracks (maat span loaded) who w stands.obeys u i
+  pub commit_tracks : (who : Attempt) (number : Number) (new : Table) → MayCommit h who number → EndsOne who (Some number) t new → Tracks loaded (state_of new) (Commit who number [] ∷ h)
+  commit_tracks who number new may c = committed_tracks loaded h knows sounds votes who number may t new stands.tracks c
 
-  pub promised : (who : Attempt) → IsUnended h who → length (holding_at t.parts who).appends ≤ t.promised
-  promised who u =
-      let mine = ap (λ (l : List Keyed). length l) (stands.tracks.rows who u).1 in
-      let less = promised_less h (Abort who [] ∷ h) who (yeas h) refl u votes in
-      omega (arith, mine, less, stands.tracks.promised)
-
-  pub commit_tracks : (who : Attempt) (number : Number) (new : Table) → MayCommit h who number → Ends who (Some number) t new → Tracks loaded (state_of new) (Commit who number [] ∷ h)
-  commit_tracks who number new may c = committed_tracks loaded h sounds votes who number may t new stands.tracks c
-
-  pub abort_tracks : (who : Attempt) (new : Table) → MayAbort h who → Ends who None t new → Tracks loaded (state_of new) (Abort who [] ∷ h)
-  abort_tracks who new may c = aborted_tracks loaded h sounds votes who t new may stands.tracks c
-
-  -- the rows that are left
-  pub rows_are : (key : Key) → row_in t.store key ≡ rows_left loaded h key
-  rows_are key = rows (version_at t.store key) ∙ ap (option_map (λ v. v.row)) (stands.tracks.versions key) ∙ last_rows loaded (maat span loaded) (λ k o. windows_law loaded (maat span loaded) (ranging span loaded) k o) h key stands.obeys
-    where
-      rows : (v : Option StoredVersion) → option_map (λ x. x.row) v ≡ option_map (λ x. x.row) (option_map version_of v)
-      rows None = refl
-      rows (Some v) = refl
+  pub abort_tracks : (who : Attempt) (new : Table) → MayAbort h who → EndsOne who None t new → Tracks loaded (state_of new) (Abort who [] ∷ h)
+  abort_tracks who new may c = aborted_tracks loaded h knows sounds votes who t new may stands.tracks c

@@ -8,24 +8,25 @@ use Rattle.deneva_base.specs.Keys.{attempt_eq}
 use Rattle.deneva_base.proofs.Membership.{filter_in, attempt_tells}
 use Rattle.range_control.specs.declared.accesses.Window.{Window}
 use Rattle.range_control.specs.declared.accesses.Held.{Held}
-use Rattle.range_control.specs.Accesses.{Accesses, own_in, prepared_in, prepared, passed, without, ended_in}
-use Rattle.range_control.specs.Tables.{changed}
-use Rattle.range_control.proofs.Places.{same_tells}
+use Rattle.range_control.specs.Seen.{Accesses}
+use Rattle.range_control.specs.Accesses.{own_in, prepared_in, prepared, passed, without, ended_in}
+use Rattle.range_control.specs.Tables.{all_changed}
+use Rattle.key_table.proofs.Places.{same_tells}
 use Rattle.range_control.proofs.Lists.{map_both, map_none, filter_all}
 use Rattle.range_control.proofs.Holders.{own_cases}
 
-changed_none : (f : Key → Accesses → Accesses) (ks : List Key) (k : Key) (l : Accesses) → f k l ≡ l → changed f ks k l ≡ l
+changed_none : (f : Key → Accesses → Accesses) (ks : List Key) (k : Key) (l : Accesses) → f k l ≡ l → all_changed f ks k l ≡ l
 changed_none f [] k l e = refl
 changed_none f (q ∷ qs) k l e = ⊎_elim
-    (λ t. rw t.0 (ap (λ x. changed f qs k (f x l)) t.1 ∙ ap (changed f qs k) e ∙ changed_none f qs k l e))
+    (λ t. rw t.0 (ap (λ x. all_changed f qs k (f x l)) t.1 ∙ ap (all_changed f qs k) e ∙ changed_none f qs k l e))
     (λ t. rw t.0 (changed_none f qs k l e))
     (same_tells q k)
 
 -- each key is changed once, or the change is none
-pub changed_is : (f : Key → Accesses → Accesses) (ks : List Key) (k : Key) (l : Accesses) → f k (f k l) ≡ f k l → IsIn k ks ⊎ (f k l ≡ l) → changed f ks k l ≡ f k l
+pub changed_is : (f : Key → Accesses → Accesses) (ks : List Key) (k : Key) (l : Accesses) → f k (f k l) ≡ f k l → IsIn k ks ⊎ (f k l ≡ l) → all_changed f ks k l ≡ f k l
 changed_is f [] k l twice here = ⊎_elim (λ i. absurd i) (λ e. sym e) here
 changed_is f (q ∷ qs) k l twice here = ⊎_elim
-    (λ t. rw t.0 (ap (λ x. changed f qs k (f x l)) t.1 ∙ changed_none f qs k (f k l) twice))
+    (λ t. rw t.0 (ap (λ x. all_changed f qs k (f x l)) t.1 ∙ changed_none f qs k (f k l) twice))
     (λ t. rw t.0 (changed_is f qs k l twice (⊎_elim (λ i. ⊎_elim (λ e. absurd (t.1 (sym e))) (λ j. inl j) i) (λ e. inr e) here)))
     (same_tells q k)
 

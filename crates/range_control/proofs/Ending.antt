@@ -1,6 +1,5 @@
 -- The table tracks the history with the end of an attempt.
-use Rattle.std.proofs.Common.{◌≡◌, ◌≢◌, suc, ◌+◌, ◌-◌, max, List, [], ◌∷◌, map, filter, reverse, Bool, true, false, not, ◌&&◌, ◌||◌, cond, length, refl, sym, ap, ◌∙◌, subst, inl, inr, ⊎_elim, arith, Option, Some, None, option_map, true≢false}
-use Rattle.std.specs.List.{list_any}
+use Rattle.std.proofs.Common.{◌≡◌, ◌≢◌, suc, ◌-◌, max, [], ◌∷◌, map, filter, reverse, Bool, true, false, not, ◌&&◌, ◌||◌, cond, refl, sym, ap, ◌∙◌, subst, inl, inr, ⊎_elim, arith, Option, Some, None, option_map, true≢false}
 use Rattle.deneva_base.specs.declared.keys.Key.{Key}
 use Rattle.deneva_base.specs.declared.numbers.Attempt.{Attempt}
 use Rattle.deneva_base.specs.declared.numbers.Number.{Number}
@@ -10,124 +9,56 @@ use Rattle.deneva_base.specs.Rows.{Rows}
 use Rattle.deneva_base.specs.Modes.{reads}
 use Rattle.deneva_base.specs.Keys.{key_eq, attempt_eq, number_lt}
 use Rattle.protocol_rules.specs.Conditions.{MayCommit, MayAbort}
-use Rattle.protocol_rules.specs.History.{Commit, Abort, History, Grant, Yea, Decided, grants, yeas, decided, ended, IsUnended}
-use Rattle.protocol_rules.specs.Latest.{row_for, writes_in, has_ended}
-use Rattle.protocol_rules.specs.Leaving.{later, left_in as rows_in_vote}
+use Rattle.protocol_rules.specs.History.{Commit, Abort, History, Grant, Yea, Decided, grants, yeas, decided}
+use Rattle.protocol_rules.specs.Latest.{has_ended}
 use Rattle.protocol_rules.specs.Ranged.{lists, wrote, accessed, past_committed}
-use Rattle.deneva_base.proofs.Membership.{filter_in, any_at, any_found, and_true, and_parts, key_decides, attempt_decides, attempt_tells}
+use Rattle.deneva_base.proofs.Membership.{filter_in, any_at, any_found, and_true, and_parts, key_decides, attempt_decides}
 use Rattle.protocol_rules.proofs.Sound.{Sound}
 use Rattle.protocol_rules.proofs.Rangeds.{accessed_at}
-use Rattle.row_store.specs.declared.versions.Version.{Version as StoredVersion}
-use Rattle.row_store.specs.Stores.{newest}
 use Rattle.control_core.specs.Leaving.{last}
-use Rattle.control_core.proofs.Lasts.{appends_in, left_is, row_for_both, later_twice}
 use Rattle.range_control.specs.declared.ends.Upper.{Upper}
 use Rattle.range_control.specs.declared.accesses.Held.{Held}
 use Rattle.range_control.specs.declared.table.Table.{Table}
 use Rattle.range_control.specs.Ends.{upper_before, first_of, first_by}
-use Rattle.range_control.specs.Accesses.{Accesses, own_in, is_writing, overtaken, passed, ended_in}
-use Rattle.range_control.specs.Holdings.{Holding, nothing}
-use Rattle.range_control.specs.Changes.{Ends, offered}
-use Rattle.range_control.specs.Standing.{State, state_of, is_held, held_here, window_in, under_decided, held_of, Tracks, version_of, first_voter, promised_in}
+use Rattle.range_control.specs.Seen.{Accesses}
+use Rattle.range_control.specs.Accesses.{own_in, is_writing, overtaken, passed, ended_in}
+use Rattle.range_control.specs.Changes.{EndsOne}
+use Rattle.range_control.specs.Standing.{State, state_of, is_held, held_here, window_in, under_decided, held_of, Tracks, first_voter}
 use Rattle.range_control.proofs.Firsts.{first_more}
 use Rattle.range_control.proofs.Lists.{map_same, map_both, filter_map, filter_both}
-use Rattle.range_control.proofs.Histories.{Apart, wrote_found}
+use Rattle.shelf.specs.Shelves.{held}
+use Rattle.shelf.specs.Keeps.{version_of, Apart, Closes}
+use Rattle.shelf.proofs.Closing.{abort_closes, commit_closes}
+use Rattle.shelf.proofs.Keeps.{keeps_ended, committed_rows, aborted_rows}
+use Rattle.protocol_rules.proofs.Known.{Known}
+use Rattle.row_store.specs.Stores.{version_at}
+use Rattle.range_control.proofs.Histories.{wrote_found}
 use Rattle.range_control.proofs.Holders.{reverse-cons, own_cases, own, real, window_of, window_some}
 use Rattle.range_control.proofs.Changing.{not_own, changed_is, ended_none, ended_twice}
-use Rattle.range_control.proofs.Preparing.{unended_test}
-
--- rows that come under a number
-pub offered_later : (n : Number) (rows : List Keyed) (key : Key) (v : Option StoredVersion) → option_map version_of (offered n rows key v) ≡ later (option_map version_of v) n (row_for key rows)
-offered_later n [] key v = refl
-offered_later n (r ∷ rows) key v = go (key_eq r.key key) (λ u. offered_later n rows key u)
-  where
-    one : (v : Option StoredVersion) → option_map version_of (newest v (record { number = n; row = r.row })) ≡ later (option_map version_of v) n (Some r.row)
-    one None = refl
-    one (Some u) = pick (number_lt u.number n)
-      where
-        pick : (b : Bool) → option_map version_of (Some (cond b (record { number = n; row = r.row }) u)) ≡ cond b (Some (record { number = n; row = r.row })) (Some (version_of u))
-        pick true = refl
-        pick false = refl
-
-    go : (b : Bool) → ((u : Option StoredVersion) → option_map version_of (offered n rows key u) ≡ later (option_map version_of u) n (row_for key rows)) → option_map version_of (offered n rows key (cond b (newest v (record { number = n; row = r.row })) v)) ≡ later (option_map version_of v) n (cond b (Some r.row) (row_for key rows))
-    go true rest = rest (newest v (record { number = n; row = r.row })) ∙ ap (λ x. later x n (row_for key rows)) (one v) ∙ later_twice (option_map version_of v) n (Some r.row) (row_for key rows)
-    go false rest = rest v
-
-pub committed_version : (n : Number) (ys : List Yea) (who : Attempt) (key : Key) (v : Option StoredVersion) → option_map version_of (offered n (appends_in ys who) key (offered n (writes_in ys who) key v)) ≡ later (option_map version_of v) n (row_for key (rows_in_vote ys who))
-committed_version n ys who key v =
-    offered_later n (appends_in ys who) key (offered n (writes_in ys who) key v)
-    ∙ ap (λ x. later x n (row_for key (appends_in ys who))) (offered_later n (writes_in ys who) key v)
-    ∙ later_twice (option_map version_of v) n (row_for key (writes_in ys who)) (row_for key (appends_in ys who))
-    ∙ ap (later (option_map version_of v) n) (sym (ap (row_for key) (left_is ys who) ∙ row_for_both key (writes_in ys who) (appends_in ys who)))
-
--- an end leaves out what the attempt was promised
-promised_none : (h h' : History) (who : Attempt) (ys : List Yea) → ended h' ≡ who ∷ ended h → ((z : Yea) → IsIn z ys → z.who ≢ who) → (promised_in h' ys ≡ promised_in h ys) × (appends_in ys who ≡ [])
-promised_none h h' who [] e n = (refl, refl)
-promised_none h h' who (y ∷ ys) e n =
-    let rest = promised_none h h' who ys e (λ z i. n z (inr i)) in
-    let f = ⊎_elim (λ t. absurd (n y (inl refl) t.1)) (λ f. f.0) (attempt_tells y.who who) in
-    let same : has_ended h' y.who ≡ has_ended h y.who = ap (λ l. list_any (attempt_eq y.who) l) e ∙ rw f refl in
-    (rw (same, rest.0) refl, rw f rest.1)
-
-pub promised_less : (h h' : History) (who : Attempt) (ys : List Yea) → ended h' ≡ who ∷ ended h → IsUnended h who → Apart ys → promised_in h' ys + length (appends_in ys who) ≡ promised_in h ys
-promised_less h h' who [] e u a = refl
-promised_less h h' who (y ∷ ys) e u a = ⊎_elim
-    (λ t.
-    let none = promised_none h h' who ys e (λ z i s. a.0 z i (s ∙ sym t.1)) in
-    let now : has_ended h' y.who ≡ true = ap (λ l. list_any (attempt_eq y.who) l) e ∙ rw t.0 refl in
-    let before : has_ended h y.who ≡ false = ap (has_ended h) t.1 ∙ unended_test h who u in
-    rw (now, before, t.0, none.0) (omega arith))
-    (λ f.
-    let rest = promised_less h h' who ys e u a.1 in
-    let same : has_ended h' y.who ≡ has_ended h y.who = ap (λ l. list_any (attempt_eq y.who) l) e ∙ rw f.0 refl in
-    rw (same, f.0) (omega (arith, rest)))
-    (attempt_tells y.who who)
-
--- the end of an attempt
-pub record Closes (h h' : History) (who : Attempt) : Type 0 where
-  pub grants_same : grants h' ≡ grants h
-  pub ended_more : ended h' ≡ who ∷ ended h
-  pub yeas_same : yeas h' ≡ yeas h
-  pub unended : IsUnended h who
 
 module _ (loaded : Rows) (h h' : History) (who : Attempt) (number : Option Number) (apart : Apart (yeas h)) (c : Closes h h' who) where
-  still : (x : Attempt) → IsUnended h' x → (x ≢ who) × IsUnended h x
-  still x u = ((λ e. u (subst (λ l. IsIn x l) (sym c.ended_more) (inl e))), (λ i. u (subst (λ l. IsIn x l) (sym c.ended_more) (inr i))))
-
   -- each access of the attempt is at one of its keys
-  pub closed_lines : (old new : Table) → Tracks loaded (state_of old) h → Ends who number old new → (k : Key) → (state_of new).lines k ≡ ended_in who number ((state_of old).lines k)
+  pub closed_lines : (old new : Table) → Tracks loaded (state_of old) h → EndsOne who number old new → (k : Key) → (state_of new).lines k ≡ ended_in who number ((state_of old).lines k)
   closed_lines old new t e k =
       let s : State = state_of old in
-      e.lines k ∙ changed_is (λ q. ended_in who number) (s.holding who).keys k (s.lines k) (ended_twice who number (s.lines k))
+      e.lines k ∙ changed_is (λ q. ended_in who number) (held s.shelf who).keys k (s.lines k) (ended_twice who number (s.lines k))
       (⊎_elim
       (λ x.
       let r = real loaded h s t k x.0 x.1 in
       let same : r.0.who ≡ who = sym (ap (λ (z : Held). z.who) r.4) ∙ x.2 in
-      inl (subst (λ q. IsIn q (s.holding who).keys) r.3 (subst (λ w. IsIn r.0.key (s.holding w).keys) same (t.noted r.0 r.1 r.2))))
+      inl (subst (λ q. IsIn q (held s.shelf who).keys) r.3 (subst (λ w. IsIn r.0.key (held s.shelf w).keys) same (t.kept.noted r.0 r.1 r.2))))
       (λ n. inr (ended_none who number (s.lines k) n.0))
       (own_cases who (s.lines k).held))
 
-  pub closed_tracks : (old new : Table) → Tracks loaded (state_of old) h → Ends who number old new
+  pub closed_tracks : (old new : Table) → Tracks loaded (state_of old) h → EndsOne who number old new
       → ((k : Key) → ((state_of new).lines k).held ≡ map (held_of h') (held_here h' k)) → ((k : Key) → ((state_of new).lines k).past ≡ greatest_by (past_committed h' k) (decided h'))
-      → ((k : Key) → option_map version_of ((state_of new).versions k) ≡ last loaded h' k)
+      → ((k : Key) → option_map version_of (version_at new.shelf.store k) ≡ last loaded h' k)
       → Tracks loaded (state_of new) h'
   closed_tracks old new t e held past versions =
-      let s : State = state_of old in
-      let s' : State = state_of new in
-      let others : (w : Attempt) → w ≢ who → s'.holding w ≡ s.holding w = λ w n. ⊎_elim (λ x. absurd (n (sym x.1))) (λ f. e.parts w ∙ ap (λ b. cond b nothing (s.holding w)) f.0) (attempt_tells who w) in
       record {
         held = held;
         past = past;
-        noted = λ g i u. let v = still g.who u in subst (λ (l : Holding). IsIn g.key l.keys) (sym (others g.who v.0)) (t.noted g (subst (λ l. IsIn g l) c.grants_same i) v.1);
-        rows = λ w u. let v = still w u in let o = t.rows w v.1 in (ap (λ (l : Holding). l.writes) (others w v.0) ∙ o.0 ∙ ap (λ ys. writes_in ys w) (sym c.yeas_same), ap (λ (l : Holding). l.appends) (others w v.0) ∙ o.1 ∙ ap (λ ys. appends_in ys w) (sym c.yeas_same));
-        tables = t.tables;
-        versions = versions;
-        promised =
-            let mine = ap (λ (l : List Keyed). length l) (t.rows who c.unended).1 in
-            let less = promised_less h h' who (yeas h) c.ended_more c.unended apart in
-            let to : promised_in h' (yeas h') ≡ promised_in h' (yeas h) = ap (promised_in h') c.yeas_same in
-            omega (arith, e.promised, t.promised, mine, less, to);
-        room = omega (arith, t.room, e.promised, e.room);
+        kept = keeps_ended apart c t.kept e.shelf versions;
         voted = e.voted ∙ t.voted ∙ ap first_voter (sym c.yeas_same);
       }
 
@@ -146,13 +77,13 @@ and_false : (b : Bool) → (b && false) ≡ false
 and_false true = refl
 and_false false = refl
 
-module _ (loaded : Rows) (h : History) (sound : Sound loaded h) (apart : Apart (yeas h)) (who : Attempt) where
-  pub aborted_tracks : (old new : Table) → MayAbort h who → Tracks loaded (state_of old) h → Ends who None old new → Tracks loaded (state_of new) (Abort who [] ∷ h)
+module _ (loaded : Rows) (h : History) (known : Known loaded h) (sound : Sound loaded h) (apart : Apart (yeas h)) (who : Attempt) where
+  pub aborted_tracks : (old new : Table) → MayAbort h who → Tracks loaded (state_of old) h → EndsOne who None old new → Tracks loaded (state_of new) (Abort who [] ∷ h)
   aborted_tracks old new may t e =
       let s : State = state_of old in
       let s' : State = state_of new in
       let h' : History = Abort who [] ∷ h in
-      let c : Closes h h' who = record { grants_same = refl; ended_more = refl; yeas_same = refl; unended = may.unended } in
+      let c : Closes h h' who = abort_closes may in
       let lines = closed_lines loaded h h' who None apart c old new t e in
       closed_tracks loaded h h' who None apart c old new t e
       (λ k.
@@ -160,7 +91,7 @@ module _ (loaded : Rows) (h : History) (sound : Sound loaded h) (apart : Apart (
       ∙ filter_map (held_of h) (not_own who) (other who) (held_here h k) (λ g. refl)
       ∙ ap (map (held_of h)) (filter_both (is_held h k) (other who) (is_held h' k) (reverse (grants h)) (λ g. held_test (key_eq g.key k) (attempt_eq g.who who) (has_ended h g.who))))
       (λ k. ap (λ (l : Accesses). l.past) (lines k) ∙ t.past k)
-      (λ k. ap (option_map version_of) (e.versions k) ∙ t.versions k)
+      (aborted_rows t.kept e.shelf)
 
   module _ (number : Number) (may : MayCommit h who number) where
     abbrev after : History
@@ -259,18 +190,16 @@ module _ (loaded : Rows) (h : History) (sound : Sound loaded h) (apart : Apart (
                   let p = and_parts (attempt_eq f.0.who who) (key_eq f.0.key k) f.2 in
                   absurd (none f.0 f.1 ((attempt_decides f.0.who who).0 p.0) ((key_decides f.0.key k).0 p.1))
 
-    pub committed_tracks : (old new : Table) → Tracks loaded (state_of old) h → Ends who (Some number) old new → Tracks loaded (state_of new) after
+    pub committed_tracks : (old new : Table) → Tracks loaded (state_of old) h → EndsOne who (Some number) old new → Tracks loaded (state_of new) after
     committed_tracks old new t e =
         let s : State = state_of old in
         let s' : State = state_of new in
-        let c : Closes h after who = record { grants_same = refl; ended_more = refl; yeas_same = refl; unended = may.unended } in
+        let c : Closes h after who = commit_closes known sound may in
         let lines = closed_lines loaded h after who (Some number) apart c old new t e in
-        let rows = t.rows who may.unended in
         closed_tracks loaded h after who (Some number) apart c old new t e
         (λ k.
         ap (λ (l : Accesses). l.held) (lines k) ∙ ap (filter (not_own who)) (passes s t k)
         ∙ filter_map (held_of after) (not_own who) (other who) (held_here h k) (λ g. refl)
         ∙ ap (map (held_of after)) (filter_both (is_held h k) (other who) (is_held after k) (reverse (grants h)) (λ g. held_test (key_eq g.key k) (attempt_eq g.who who) (has_ended h g.who))))
         (λ k. ap (λ (l : Accesses). l.past) (lines k) ∙ past_after s t k)
-        (λ k. ap (option_map version_of) (e.versions k ∙ ap (λ ws. offered number (s.holding who).appends k (offered number ws k (s.versions k))) rows.0 ∙ ap (λ as'. offered number as' k (offered number (writes_in (yeas h) who) k (s.versions k))) rows.1)
-        ∙ committed_version number (yeas h) who k (s.versions k) ∙ ap (λ v. later v number (row_for k (rows_in_vote (yeas h) who))) (t.versions k))
+        (committed_rows t.kept may.unended e.shelf)

@@ -1,7 +1,6 @@
 -- What holds of the votes and commits of every history under MAAT.
 use Rattle.std.proofs.Common.{◌≡◌, ◌≢◌, ℕ, ◌^◌, ◌<◌, ◌≤◌, List, [], ◌∷◌, ◌++◌, true, false, ◌&&◌, ◌||◌, Option, Some, None, refl, sym, ap, ◌∙◌, subst, inl, inr, ⊎_elim, arith}
 use Rattle.std.proofs.lemmas.Bool.Decides.{nat_tests}
-use Rattle.std.specs.Prelude.{⊤}
 use Rattle.deneva_base.specs.declared.keys.Key.{Key}
 use Rattle.deneva_base.specs.declared.numbers.Attempt.{Attempt}
 use Rattle.deneva_base.specs.declared.numbers.Number.{Number}
@@ -10,14 +9,14 @@ use Rattle.deneva_base.specs.declared.answers.Vote.{Vote}
 use Rattle.deneva_base.specs.declared.answers.Vote.TheVariants.{Yes, No}
 use Rattle.deneva_base.specs.Lists.{IsIn, least_by}
 use Rattle.deneva_base.specs.Rows.{Row, Rows}
-use Rattle.protocol_rules.specs.History.{Ask, Prepare, Commit, Abort, History, Grant, Yea, Decided, grants, yea, yeas, decided, ended, closed}
+use Rattle.protocol_rules.specs.History.{Ask, Prepare, Commit, Abort, History, Grant, Yea, Decided, grants, yea, yeas, decided, ended}
 use Rattle.deneva_base.specs.Keys.{key_eq, attempt_eq, number_lt}
 use Rattle.protocol_rules.specs.Latest.{Version, newer, latest, row_for, writes_in}
 use Rattle.protocol_rules.specs.Ranged.{lists, wrote, low_of, low, under_prepared, high, lo_key, hi_by}
 use Rattle.protocol_rules.specs.Maat.{maat}
 use Rattle.protocol_rules.specs.Rules.{Rule, Obeys}
 use Rattle.deneva_base.proofs.Membership.{any_found, and_parts, key_decides, attempt_decides, attempt_tells}
-use Rattle.protocol_rules.proofs.Sound.{Sound, sound, row_some, writes_are}
+use Rattle.protocol_rules.proofs.Sound.{sound, row_some, writes_are}
 use Rattle.protocol_rules.proofs.Maats.{window_yes}
 
 -- a least measure is at most 2^63
@@ -67,20 +66,7 @@ module _ (span : ℕ) (loaded : Rows) where
           next
           i
 
--- no two votes Yes are of one attempt
-abbrev pub Apart : List Yea → Type 0
-Apart [] = ⊤
-Apart (y ∷ ys) = ((z : Yea) → IsIn z ys → (z.who ≡ y.who) → ⊥) × Apart ys
-
 module _ (loaded : Rows) (rule : Rule) where
-  pub votes_apart : (h : History) → Obeys loaded rule h → ((k : History) → Obeys loaded rule k → Sound loaded k) → Apart (yeas h)
-  votes_apart [] o f = tt
-  votes_apart (Ask who stamp key mode answer ∷ h) o f = votes_apart h o.2 f
-  votes_apart (Prepare who bound ws as' (Yes lo hi) ∷ h) o f = ((λ z i e. o.0.opened (subst (λ a. IsIn a (closed h)) e ((f h o.2).closes z i))), votes_apart h o.2 f)
-  votes_apart (Prepare who bound ws as' (No cause) ∷ h) o f = votes_apart h o.2 f
-  votes_apart (Commit who number woken ∷ h) o f = votes_apart h o.2 f
-  votes_apart (Abort who woken ∷ h) o f = votes_apart h o.2 f
-
   -- who commits voted
   pub voted : (h : History) (d : Decided) → Obeys loaded rule h → IsIn d (decided h) → (y : Yea) × IsIn y (yeas h) × (y.who ≡ d.who)
   voted [] d o i = absurd i

@@ -16,6 +16,7 @@ use Rattle.protocol_rules.proofs.Belows.{greatest_le}
 use Rattle.protocol_rules.proofs.Timestamps.{top_by}
 use Rattle.range_control.specs.Ends.{lower_before, first_by, lower_end}
 use Rattle.range_control.specs.Accesses.{past_over, own_in, low_in}
+use Rattle.shelf.specs.Shelves.{held}
 use Rattle.range_control.specs.Standing.{State, held_of, Tracks}
 use Rattle.range_control.proofs.Firsts.{First, first_some, first_none, some_is, lowers_ordered}
 use Rattle.range_control.proofs.Leasts.{first_key_is}
@@ -26,7 +27,7 @@ abbrev pub low_key : State → Attempt → List Keyed → Key → ℕ
 low_key s who ws key = low_in (lists ws key) (past_over (s.lines key)) (own_in who (s.lines key).held)
 
 abbrev pub best_low : State → Attempt → List Keyed → Option Bound
-best_low s who ws = first_by lower_before (λ key. Some (record { n = low_key s who ws key; key = key })) None (s.holding who).keys
+best_low s who ws = first_by lower_before (λ key. Some (record { n = low_key s who ws key; key = key })) None (held s.shelf who).keys
 
 not_over : (b c : Bound) → lower_before b c ≡ false → b.n ≤ c.n
 not_over b c e = grind (arith, nat_tests, e)
@@ -67,10 +68,10 @@ module _ (loaded : Rows) (h : History) (s : State) (t : Tracks loaded s h) (one 
   low_below key = ⊎_elim (λ z. omega (arith, z)) (λ g. omega (arith, g.3, top_by (low_of h who ws) g.0 (grants h) g.1)) (from_grant key)
 
   -- and each access is at a key of the attempt
-  from_key : (g : Grant) → IsIn g (grants h) → (low_of h who ws g ≡ 0) ⊎ (IsIn g.key (s.holding who).keys × (low_key s who ws g.key ≡ low_of h who ws g))
+  from_key : (g : Grant) → IsIn g (grants h) → (low_of h who ws g ≡ 0) ⊎ (IsIn g.key (held s.shelf who).keys × (low_key s who ws g.key ≡ low_of h who ws g))
   from_key g i = ⊎_elim
       (λ w. inr (
-        subst (λ a. IsIn g.key (s.holding a).keys) w.1 (t.noted g i (subst (λ a. IsUnended h a) (sym w.1) unended)),
+        subst (λ a. IsIn g.key (held s.shelf a).keys) w.1 (t.kept.noted g i (subst (λ a. IsUnended h a) (sym w.1) unended)),
         ⊎_elim
             (λ o. asks_same g.key o.0 o.2 o.3 o.4 ∙ ap (low_of h who ws) (granted_once o.0 g o.1 i (o.2 ∙ sym w.1) o.3))
             (λ n. absurd (n.1 g i w.1 refl))
@@ -88,7 +89,7 @@ module _ (loaded : Rows) (h : History) (s : State) (t : Tracks loaded s h) (one 
     key : 1 ≤ b.n → (g : Grant) × IsIn g (grants h) × (g.key ≡ b.key) × (low_of h who ws g ≡ b.n)
     least : (g : Grant) → IsIn g (grants h) → 1 ≤ b.n → low_of h who ws g ≡ b.n → key_lt g.key b.key ≡ false
 
-  best_of : (b : Bound) → First lower_before (λ key. Some (with_n (low_key s who ws key) key)) None (s.holding who).keys b → Best b
+  best_of : (b : Bound) → First lower_before (λ key. Some (with_n (low_key s who ws key) key)) None (held s.shelf who).keys b → Best b
   best_of b f = record {
     n = omega (arith, at_most, at_least);
     key = λ pos. ⊎_elim
@@ -101,7 +102,7 @@ module _ (loaded : Rows) (h : History) (s : State) (t : Tracks loaded s h) (one 
         (from_key g i);
   }
     where
-      there : (k : Key) × IsIn k (s.holding who).keys × (with_n (low_key s who ws k) k ≡ b)
+      there : (k : Key) × IsIn k (held s.shelf who).keys × (with_n (low_key s who ws k) k ≡ b)
       there = ⊎_elim (λ z. absurd (cc (z))) (λ k. (k.0, k.1, some_is (with_n (low_key s who ws k.0) k.0) b k.2)) f.from
 
       at_most : b.n ≤ greatest_by (low_of h who ws) (grants h)
@@ -156,6 +157,6 @@ module _ (loaded : Rows) (h : History) (s : State) (t : Tracks loaded s h) (one 
       go : (o : Option Bound) → best_low s who ws ≡ o → lower_end bound o ≡ record { n = low h who bound ws; key = lo_key h bound (low_of h who ws) (low h who bound ws) }
       go None e =
           let g = something in
-          let n = first_none lower_before lowers_ordered (λ key. Some (with_n (low_key s who ws key) key)) None (s.holding who).keys e in
-          absurd (cc (n.1 g.0.key (subst (λ a. IsIn g.0.key (s.holding a).keys) g.2 (t.noted g.0 g.1 (subst (λ a. IsUnended h a) (sym g.2) unended)))))
-      go (Some b) e = some b (best_of b (first_some lower_before lowers_ordered (λ key. Some (with_n (low_key s who ws key) key)) None (s.holding who).keys b e)) (ltb bound.n b.n) refl
+          let n = first_none lower_before lowers_ordered (λ key. Some (with_n (low_key s who ws key) key)) None (held s.shelf who).keys e in
+          absurd (cc (n.1 g.0.key (subst (λ a. IsIn g.0.key (held s.shelf a).keys) g.2 (t.kept.noted g.0 g.1 (subst (λ a. IsUnended h a) (sym g.2) unended)))))
+      go (Some b) e = some b (best_of b (first_some lower_before lowers_ordered (λ key. Some (with_n (low_key s who ws key) key)) None (held s.shelf who).keys b e)) (ltb bound.n b.n) refl

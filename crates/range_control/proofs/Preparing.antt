@@ -1,6 +1,5 @@
 -- The table tracks the history with one more Prepare.
-use Rattle.std.proofs.Common.{◌≡◌, ◌≢◌, ◌⊎◌, ℕ, ◌-◌, List, ◌∷◌, map, reverse, Bool, true, false, not, ◌&&◌, cond, refl, sym, ap, ◌∙◌, subst, inl, inr, ⊎_elim, arith, Some, None, option_map, true≢false}
-use Rattle.std.specs.FinMap.{get}
+use Rattle.std.proofs.Common.{◌≡◌, ℕ, ◌-◌, List, ◌∷◌, map, reverse, not, ◌&&◌, cond, refl, sym, ap, ◌∙◌, subst, inl, inr, ⊎_elim, Some, None}
 use Rattle.deneva_base.specs.declared.keys.Key.{Key}
 use Rattle.deneva_base.specs.declared.numbers.Attempt.{Attempt}
 use Rattle.deneva_base.specs.declared.causes.Bound.{Bound}
@@ -13,36 +12,28 @@ use Rattle.deneva_base.specs.Rows.{Rows}
 use Rattle.deneva_base.specs.Modes.{reads}
 use Rattle.deneva_base.specs.Keys.{key_eq, attempt_eq, attempt_lt, number_lt}
 use Rattle.protocol_rules.specs.Conditions.{MayPrepare}
-use Rattle.protocol_rules.specs.History.{Prepare, History, Grant, Yea, Decided, grants, yeas, decided, ended, IsUnended}
-use Rattle.protocol_rules.specs.Latest.{has_ended, writes_in}
+use Rattle.protocol_rules.specs.History.{Prepare, History, Grant, Yea, Decided, grants, yeas, decided, ended}
+use Rattle.protocol_rules.specs.Latest.{has_ended}
 use Rattle.protocol_rules.specs.Ranged.{lists}
 use Rattle.deneva_base.proofs.Membership.{filter_in, and_parts, key_decides, attempt_tells}
-use Rattle.protocol_rules.proofs.Unended.{not_ended}
 use Rattle.protocol_rules.proofs.Sound.{Sound}
-use Rattle.control_core.proofs.Lasts.{appends_in}
 use Rattle.range_control.specs.declared.ends.Upper.{Upper}
 use Rattle.range_control.specs.declared.accesses.Window.{Window}
 use Rattle.range_control.specs.declared.accesses.Held.{Held}
 use Rattle.range_control.specs.declared.table.Table.{Table}
 use Rattle.range_control.specs.Ends.{upper_before, first_of, first_by}
-use Rattle.range_control.specs.Accesses.{Accesses, prepared_in}
+use Rattle.range_control.specs.Seen.{Accesses}
+use Rattle.range_control.specs.Accesses.{prepared_in}
 use Rattle.range_control.specs.Tables.{prepared_at}
-use Rattle.range_control.specs.Holdings.{Holding, with_rows}
-use Rattle.range_control.specs.Changes.{Promises, Votes}
-use Rattle.range_control.specs.Standing.{State, state_of, is_held, held_here, window_in, under_decided, held_of, Tracks, version_of}
+use Rattle.range_control.specs.Changes.{VotesYes, Votes}
+use Rattle.range_control.specs.Standing.{State, state_of, is_held, held_here, window_in, under_decided, held_of, Tracks}
 use Rattle.range_control.proofs.Firsts.{first_more, first_same}
 use Rattle.range_control.proofs.Lists.{map_both}
 use Rattle.range_control.proofs.Histories.{wrote_other}
 use Rattle.range_control.proofs.Holders.{reverse-cons, reverse_in, own_cases, real}
-use Rattle.range_control.proofs.Asking.{at_who}
+use Rattle.shelf.specs.Shelves.{held}
+use Rattle.shelf.proofs.Keeps.{keeps_promised, keeps_no}
 use Rattle.range_control.proofs.Changing.{changed_is, prepared_twice, prepared_none}
-
-pub unended_test : (h : History) (who : Attempt) → IsUnended h who → has_ended h who ≡ false
-unended_test h who u = flip (has_ended h who) (not_ended h who u)
-  where
-    flip : (b : Bool) → not b ≡ true → b ≡ false
-    flip true e = absurd (true≢false (sym e))
-    flip false e = refl
 
 attempt_sym : (a b : Attempt) → attempt_eq a b ≡ attempt_eq b a
 attempt_sym a b = ⊎_elim
@@ -72,40 +63,30 @@ module _ (loaded : Rows) (h : History) (sound : Sound loaded h) (who : Attempt) 
         λ i. record { who = g.who; mode = g.mode; version = g.version; upper = upper i; window = own i }
 
     -- each access of the attempt is at one of its keys
-    pub prepared_lines : (old new : Table) → Tracks loaded (state_of old) h → Promises who lo hi writes appends old new → (k : Key) → (state_of new).lines k ≡ prepared_at who lo hi writes k ((state_of old).lines k)
+    pub prepared_lines : (old new : Table) → Tracks loaded (state_of old) h → VotesYes who lo hi writes appends old new → (k : Key) → (state_of new).lines k ≡ prepared_at who lo hi writes k ((state_of old).lines k)
     prepared_lines old new t c k =
         let s : State = state_of old in
-        c.lines k ∙ changed_is (prepared_at who lo hi writes) (s.holding who).keys k (s.lines k) (prepared_twice who (window k) (s.lines k))
+        c.lines k ∙ changed_is (prepared_at who lo hi writes) (held s.shelf who).keys k (s.lines k) (prepared_twice who (window k) (s.lines k))
         (⊎_elim
         (λ x.
         let r = real loaded h s t k x.0 x.1 in
         let same : r.0.who ≡ who = sym (ap (λ (z : Held). z.who) r.4) ∙ x.2 in
-        inl (subst (λ q. IsIn q (s.holding who).keys) r.3 (subst (λ w. IsIn r.0.key (s.holding w).keys) same (t.noted r.0 r.1 r.2))))
+        inl (subst (λ q. IsIn q (held s.shelf who).keys) r.3 (subst (λ w. IsIn r.0.key (held s.shelf w).keys) same (t.kept.noted r.0 r.1 r.2))))
         (λ n. inr (prepared_none who (window k) (s.lines k) n.0))
         (own_cases who (s.lines k).held))
 
-    pub prepared_tracks : (old new : Table) → Tracks loaded (state_of old) h → Promises who lo hi writes appends old new → Tracks loaded (state_of new) after
+    pub prepared_tracks : (old new : Table) → Tracks loaded (state_of old) h → VotesYes who lo hi writes appends old new → Tracks loaded (state_of new) after
     prepared_tracks old new t c =
         let s : State = state_of old in
         let s' : State = state_of new in
         let lines = prepared_lines old new t c in
-        let p : (w : Attempt) → ((who ≡ w) × (s'.holding w ≡ with_rows writes appends (s.holding who))) ⊎ ((who ≢ w) × (s'.holding w ≡ s.holding w)) = λ w. at_who who w (s'.holding w) (with_rows writes appends (s.holding who)) (s.holding w) (c.parts w) in
-        let keys : (w : Attempt) → (s'.holding w).keys ≡ (s.holding w).keys = λ w. ⊎_elim (λ x. ap (λ (l : Holding). l.keys) x.1 ∙ ap (λ q. (s.holding q).keys) x.0) (λ e. ap (λ (l : Holding). l.keys) e.1) (p w) in
         record {
           held = λ k.
               ap (λ (l : Accesses). l.held) (lines k) ∙ ap (map (prepared_in who (window k))) (t.held k)
               ∙ map_both (prepared_in who (window k)) (held_of h) (held_of after) (held_here h k)
               (λ g i. held_after g k (let f = filter_in (is_held h k) g (reverse (grants h)) i in (key_decides g.key k).0 (and_parts (key_eq g.key k) (not (has_ended h g.who)) f.1).0));
           past = λ k. ap (λ (l : Accesses). l.past) (lines k) ∙ t.past k;
-          noted = λ g i u. subst (λ l. IsIn g.key l) (sym (keys g.who)) (t.noted g i u);
-          rows = λ w u. ⊎_elim
-              (λ x. (ap (λ (l : Holding). l.writes) x.1 ∙ sym (mine_writes w x.0), ap (λ (l : Holding). l.appends) x.1 ∙ sym (mine_appends w x.0)))
-              (λ x. let o = t.rows w u in (ap (λ (l : Holding). l.writes) x.1 ∙ o.0 ∙ sym (other_writes w x.0), ap (λ (l : Holding). l.appends) x.1 ∙ o.1 ∙ sym (other_appends w x.0)))
-              (p w);
-          tables = t.tables;
-          versions = λ k. ap (λ m. option_map version_of (get m k)) c.versions ∙ t.versions k;
-          promised = let e = t.promised in let f = c.promised in rw (unended_test h who may.unended) (omega (arith, e, f));
-          room = c.room;
+          kept = keeps_promised may.unended refl t.kept c.shelf;
           voted =
               c.voted ∙ ap (λ o. first_of attempt_lt o (Some who)) t.voted
               ∙ sym (ap (first_by attempt_lt (λ (y : Yea). Some y.who) None) (reverse-cons mine (yeas h)) ∙ first_more attempt_lt (λ (y : Yea). Some y.who) None (reverse (yeas h)) mine);
@@ -114,29 +95,12 @@ module _ (loaded : Rows) (h : History) (sound : Sound loaded h) (who : Attempt) 
         mine : Yea
         mine = record { who = who; lo = lo; hi = hi; writes = writes; appends = appends }
 
-        mine_writes : (w : Attempt) → who ≡ w → cond (attempt_eq who w) writes (writes_in (yeas h) w) ≡ writes
-        mine_writes w e = ⊎_elim (λ t. ap (λ b. cond b writes (writes_in (yeas h) w)) t.0) (λ f. absurd (f.1 e)) (attempt_tells who w)
-
-        mine_appends : (w : Attempt) → who ≡ w → cond (attempt_eq who w) appends (appends_in (yeas h) w) ≡ appends
-        mine_appends w e = ⊎_elim (λ t. ap (λ b. cond b appends (appends_in (yeas h) w)) t.0) (λ f. absurd (f.1 e)) (attempt_tells who w)
-
-        other_writes : (w : Attempt) → who ≢ w → cond (attempt_eq who w) writes (writes_in (yeas h) w) ≡ writes_in (yeas h) w
-        other_writes w n = ⊎_elim (λ t. absurd (n t.1)) (λ f. ap (λ b. cond b writes (writes_in (yeas h) w)) f.0) (attempt_tells who w)
-
-        other_appends : (w : Attempt) → who ≢ w → cond (attempt_eq who w) appends (appends_in (yeas h) w) ≡ appends_in (yeas h) w
-        other_appends w n = ⊎_elim (λ t. absurd (n t.1)) (λ f. ap (λ b. cond b appends (appends_in (yeas h) w)) f.0) (attempt_tells who w)
-
   -- a No changes nothing
   refused_tracks : (s : State) (cause : Cause) → Tracks loaded s h → Tracks loaded s (Prepare who bound writes appends (No cause) ∷ h)
   refused_tracks s cause t = record {
     held = t.held;
     past = t.past;
-    noted = t.noted;
-    rows = t.rows;
-    tables = t.tables;
-    versions = t.versions;
-    promised = t.promised;
-    room = t.room;
+    kept = keeps_no t.kept;
     voted = t.voted;
   }
 

@@ -20,6 +20,7 @@ use Rattle.range_control.specs.declared.ends.Upper.{Upper}
 use Rattle.range_control.specs.declared.accesses.Window.{Window}
 use Rattle.range_control.specs.Ends.{upper_before, first_by, upper_end, attempt_or}
 use Rattle.range_control.specs.Accesses.{own_in, under, left_by, upper_in}
+use Rattle.shelf.specs.Shelves.{held}
 use Rattle.range_control.specs.Standing.{State, under_decided, window_in, held_of, first_voter, Tracks}
 use Rattle.range_control.proofs.Firsts.{first_some, first_none, first_leaves, first_keeps, some_is, uppers_ordered, attempts_ordered}
 use Rattle.range_control.proofs.Leasts.{first_attempt_is}
@@ -32,7 +33,7 @@ abbrev pub upper_key : State → Attempt → Key → Option Upper
 upper_key s who key = upper_in (s.lines key).held (own_in who (s.lines key).held)
 
 abbrev pub best_upper : State → Attempt → Option Upper
-best_upper s who = first_by upper_before (upper_key s who) None (s.holding who).keys
+best_upper s who = first_by upper_before (upper_key s who) None (held s.shelf who).keys
 
 -- a prepared attempt limits the access, or a committed one does
 abbrev prepared_test : History → Attempt → Grant → Yea → Bool
@@ -131,17 +132,17 @@ module _ (loaded : Rows) (h : History) (s : State) (t : Tracks loaded s h) (soun
       (λ n. absurd (n.1 g i w refl))
       (own loaded h s t who unended g.key)
 
-  noted : (g : Grant) → IsIn g (grants h) → g.who ≡ who → IsIn g.key (s.holding who).keys
-  noted g i w = subst (λ a. IsIn g.key (s.holding a).keys) w (t.noted g i (subst (λ a. IsUnended h a) (sym w) unended))
+  noted : (g : Grant) → IsIn g (grants h) → g.who ≡ who → IsIn g.key (held s.shelf who).keys
+  noted g i w = subst (λ a. IsIn g.key (held s.shelf a).keys) w (t.kept.noted g i (subst (λ a. IsUnended h a) (sym w) unended))
 
   upper_is : (g : Grant) → IsIn g (grants h) → g.who ≡ who → reads g.mode ≡ true → upper_key s who g.key ≡ first_by upper_before (left_by g.who g.version) (held_of h g).upper (s.lines g.key).held
   upper_is g i w r = ap (upper_in (s.lines g.key).held) (own_is g i w) ∙ ap (λ b. cond b (first_by upper_before (left_by g.who g.version) (held_of h g).upper (s.lines g.key).held) None) r
 
   -- what limits an access of the attempt is no less than what one of its keys gives
-  reaches : (v : Upper) → Gives h who v → (x : Upper) × (k : Key) × IsIn k (s.holding who).keys × (upper_key s who k ≡ Some x) × (upper_before v x ≡ false)
+  reaches : (v : Upper) → Gives h who v → (x : Upper) × (k : Key) × IsIn k (held s.shelf who).keys × (upper_key s who k ≡ Some x) × (upper_before v x ≡ false)
   reaches v gives = ⊎_elim (λ p. prepared p.0 p.1 p.2 p.3 p.4 p.5) (λ p. committed p.0 p.1 p.2 p.3 p.4 p.5) gives
     where
-      prepared : (g : Grant) (y : Yea) → IsIn g (grants h) → IsIn y (yeas h) → prepared_test h who g y ≡ true → v ≡ prepared_end y → (x : Upper) × (k : Key) × IsIn k (s.holding who).keys × (upper_key s who k ≡ Some x) × (upper_before v x ≡ false)
+      prepared : (g : Grant) (y : Yea) → IsIn g (grants h) → IsIn y (yeas h) → prepared_test h who g y ≡ true → v ≡ prepared_end y → (x : Upper) × (k : Key) × IsIn k (held s.shelf who).keys × (upper_key s who k ≡ Some x) × (upper_before v x ≡ false)
       prepared g y i j test e =
           let p0 = and_parts (attempt_eq g.who who) (reads g.mode && (not (attempt_eq y.who who) && (not (has_ended h y.who) && (lists y.writes g.key && ltb g.version.n y.hi)))) test in
           let p1 = and_parts (reads g.mode) (not (attempt_eq y.who who) && (not (has_ended h y.who) && (lists y.writes g.key && ltb g.version.n y.hi))) p0.1 in
@@ -167,7 +168,7 @@ module _ (loaded : Rows) (h : History) (s : State) (t : Tracks loaded s h) (soun
           flip true q = absurd (true≢false (sym q))
           flip false q = refl
 
-      committed : (g : Grant) (d : Decided) → IsIn g (grants h) → IsIn d (decided h) → committed_test h who g d ≡ true → v ≡ committed_end d → (x : Upper) × (k : Key) × IsIn k (s.holding who).keys × (upper_key s who k ≡ Some x) × (upper_before v x ≡ false)
+      committed : (g : Grant) (d : Decided) → IsIn g (grants h) → IsIn d (decided h) → committed_test h who g d ≡ true → v ≡ committed_end d → (x : Upper) × (k : Key) × IsIn k (held s.shelf who).keys × (upper_key s who k ≡ Some x) × (upper_before v x ≡ false)
       committed g d i j test e =
           let p0 = and_parts (attempt_eq g.who who) (reads g.mode && (wrote h d.who g.key && number_lt g.version d.number)) test in
           let p1 = and_parts (reads g.mode) (wrote h d.who g.key && number_lt g.version d.number) p0.1 in
@@ -184,17 +185,17 @@ module _ (loaded : Rows) (h : History) (s : State) (t : Tracks loaded s h) (soun
 
   -- the best is one of them, and none is before it
   best_gives : (u : Upper) → best_upper s who ≡ Some u → Gives h who u
-  best_gives u e = ⊎_elim (λ z. absurd (cc z)) (λ k. from_key k.0 u k.2) (first_some upper_before uppers_ordered (upper_key s who) None (s.holding who).keys u e).from
+  best_gives u e = ⊎_elim (λ z. absurd (cc z)) (λ k. from_key k.0 u k.2) (first_some upper_before uppers_ordered (upper_key s who) None (held s.shelf who).keys u e).from
 
   best_first : (u v : Upper) → best_upper s who ≡ Some u → Gives h who v → upper_before v u ≡ false
   best_first u v e gives =
       let r = reaches v gives in
-      uppers_ordered.trans v r.0 u r.4 ((first_some upper_before uppers_ordered (upper_key s who) None (s.holding who).keys u e).none_before r.1 r.0 r.2 r.3)
+      uppers_ordered.trans v r.0 u r.4 ((first_some upper_before uppers_ordered (upper_key s who) None (held s.shelf who).keys u e).none_before r.1 r.0 r.2 r.3)
 
   best_none : (v : Upper) → best_upper s who ≡ None → Gives h who v → ⊥
   best_none v e gives =
       let r = reaches v gives in
-      cc (sym r.3 ∙ (first_none upper_before uppers_ordered (upper_key s who) None (s.holding who).keys e).1 r.1 r.2)
+      cc (sym r.3 ∙ (first_none upper_before uppers_ordered (upper_key s who) None (held s.shelf who).keys e).1 r.1 r.2)
 
   module _ (ranges : (y : Yea) → IsIn y (yeas h) → InRange y) (numbers : (d : Decided) → IsIn d (decided h) → d.number.n < 2 ^ 48) (voters : (d : Decided) → IsIn d (decided h) → (y : Yea) × IsIn y (yeas h) × (y.who ≡ d.who)) where
     small : (u : Upper) → Gives h who u → u.n < 2 ^ 63

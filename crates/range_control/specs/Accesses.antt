@@ -8,19 +8,11 @@ use Rattle.deneva_base.specs.Lists.{greatest_by}
 use Rattle.range_control.specs.declared.ends.Upper.{Upper}
 use Rattle.range_control.specs.declared.accesses.Window.{Window}
 use Rattle.range_control.specs.declared.accesses.Held.{Held}
-use Rattle.range_control.specs.declared.accesses.Line.{Line}
+use Rattle.range_control.specs.Seen.{Accesses}
 use Rattle.range_control.specs.Ends.{upper_before, first_of, first_by}
-
--- what is kept of a key: its unended accesses, the oldest first, and one past the greatest number of an attempt that accessed it
-pub record Accesses : Type 0 where
-  pub held : List Held
-  pub past : ℕ
 
 abbrev pub no_accesses : Accesses
 no_accesses = record { held = []; past = 0 }
-
-abbrev pub accesses_of : Line → Accesses
-accesses_of l = record { held = l.held.items; past = l.past }
 
 -- one past the upper end of a window
 abbrev pub past_window : Option Window → ℕ

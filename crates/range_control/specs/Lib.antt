@@ -1,6 +1,6 @@
 pub mod Ends
+pub mod Seen
 pub mod Accesses
 pub mod Tables
-pub mod Holdings
 pub mod Changes
 pub mod Standing

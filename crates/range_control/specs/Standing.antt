@@ -1,41 +1,35 @@
 -- What a table stands for: a history, of which it has for each key the unended accesses, the greatest number of a committed
 -- one and the last version, and for each attempt its keys and rows.
-use Rattle.std.specs.Prelude.{◌≡◌, ℕ, ◌+◌, ◌-◌, ◌≤◌, List, [], ◌∷◌, length, map, filter, reverse, Bool, not, ◌&&◌, cond, Option, Some, None, option_map}
+use Rattle.std.specs.Prelude.{◌≡◌, ℕ, ◌-◌, List, [], ◌∷◌, map, filter, reverse, Bool, false, not, ◌&&◌, cond, Option, Some, None}
 use Rattle.deneva_base.specs.declared.keys.Key.{Key}
 use Rattle.deneva_base.specs.declared.numbers.Attempt.{Attempt}
-use Rattle.deneva_base.specs.Lists.{IsIn, greatest_by}
+use Rattle.deneva_base.specs.Lists.{greatest_by}
 use Rattle.deneva_base.specs.Keys.{key_eq, attempt_eq, attempt_lt, number_lt}
 use Rattle.deneva_base.specs.Modes.{reads}
-use Rattle.deneva_base.specs.Rows.{Row, Rows}
-use Rattle.protocol_rules.specs.History.{History, Grant, Yea, Decided, grants, yeas, decided, IsUnended}
-use Rattle.protocol_rules.specs.Latest.{Version, writes_in, has_ended}
+use Rattle.deneva_base.specs.Rows.{Rows}
+use Rattle.protocol_rules.specs.History.{History, Grant, Yea, Decided, grants, yeas, decided}
+use Rattle.protocol_rules.specs.Latest.{has_ended}
 use Rattle.protocol_rules.specs.Ranged.{lists, wrote, past_committed}
 use Rattle.protocol_rules.specs.Maat.{maat}
 use Rattle.protocol_rules.specs.Rules.{Obeys}
-use Rattle.row_store.specs.declared.versions.Version.{Version as StoredVersion}
-use Rattle.row_store.specs.Stores.{version_at}
-use Rattle.control_core.specs.Leaving.{last}
-use Rattle.control_core.proofs.Lasts.{appends_in}
+use Rattle.shelf.specs.declared.shelf.Shelf.{Shelf}
+use Rattle.shelf.specs.Keeps.{KeepsRows}
 use Rattle.range_control.specs.declared.ends.Upper.{Upper}
 use Rattle.range_control.specs.declared.accesses.Window.{Window}
 use Rattle.range_control.specs.declared.accesses.Held.{Held}
 use Rattle.range_control.specs.declared.table.Table.{Table}
 use Rattle.range_control.specs.Ends.{upper_before, first_by}
-use Rattle.range_control.specs.Accesses.{Accesses}
+use Rattle.range_control.specs.Seen.{Accesses}
 use Rattle.range_control.specs.Tables.{accesses_at}
-use Rattle.range_control.specs.Holdings.{Holding, holding_at}
 
 -- what is seen of a table
 pub record State : Type 0 where
   pub lines : Key → Accesses
-  pub holding : Attempt → Holding
-  pub versions : Key → Option StoredVersion
-  pub spare : ℕ
-  pub promised : ℕ
+  pub shelf : Shelf
   pub voted : Option Attempt
 
 abbrev pub state_of : Table → State
-state_of t = record { lines = accesses_at t.lines; holding = holding_at t.parts; versions = version_at t.store; spare = t.store.spare; promised = t.promised; voted = t.voted }
+state_of t = record { lines = accesses_at t.lines; shelf = t.shelf; voted = t.voted }
 
 -- the granted accesses to the key of attempts that have not ended, the oldest first
 abbrev pub is_held : History → Key → Grant → Bool
@@ -57,14 +51,6 @@ under_decided h g d = cond (reads g.mode && (wrote h d.who g.key && number_lt g.
 abbrev pub held_of : History → Grant → Held
 held_of h g = record { who = g.who; mode = g.mode; version = g.version; upper = first_by upper_before (under_decided h g) None (reverse (decided h)); window = window_in (yeas h) g.who g.key }
 
-abbrev pub version_of : StoredVersion → Version
-version_of v = record { number = v.number; row = v.row }
-
--- how many rows are appended by attempts that voted Yes and have not ended
-abbrev pub promised_in : History → List Yea → ℕ
-promised_in h [] = 0
-promised_in h (y ∷ ys) = cond (has_ended h y.who) 0 (length y.appends) + promised_in h ys
-
 -- the least attempt that voted Yes
 abbrev pub first_voter : List Yea → Option Attempt
 first_voter ys = first_by attempt_lt (λ y. Some y.who) None (reverse ys)
@@ -73,12 +59,7 @@ first_voter ys = first_by attempt_lt (λ y. Some y.who) None (reverse ys)
 pub record Tracks (loaded : Rows) (s : State) (h : History) : Type 0 where
   pub held : (key : Key) → (s.lines key).held ≡ map (held_of h) (held_here h key)
   pub past : (key : Key) → (s.lines key).past ≡ greatest_by (past_committed h key) (decided h)
-  pub noted : (g : Grant) → IsIn g (grants h) → IsUnended h g.who → IsIn g.key (s.holding g.who).keys
-  pub rows : (who : Attempt) → IsUnended h who → ((s.holding who).writes ≡ writes_in (yeas h) who) × ((s.holding who).appends ≡ appends_in (yeas h) who)
-  pub tables : (key : Key) (row : Row) → loaded key ≡ Some row → key.table ≤ 4
-  pub versions : (key : Key) → option_map version_of (s.versions key) ≡ last loaded h key
-  pub promised : s.promised ≡ promised_in h (yeas h)
-  pub room : s.promised ≤ s.spare
+  pub kept : KeepsRows false loaded s.shelf h
   pub voted : s.voted ≡ first_voter (yeas h)
 
 -- the table stands for a history that obeys the rule with windows of at most `span` numbers

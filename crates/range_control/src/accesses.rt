@@ -1,11 +1,13 @@
 //! The unended accesses to one key.
 ghost use Rattle.std.specs.Prelude.{◌≡◌, ◌<◌, ◌^◌, map, IfSome, OnOk, OnErr};
-ghost use Rattle.range_control.specs.Accesses.{no_accesses, accesses_of, past_over, own_in, low_in, left_by, upper_in, is_writing, prepared_in, prepared, overtaken, passed, without, ended_in, with_access};
+ghost use Rattle.range_control.specs.Accesses.{no_accesses, past_over, own_in, low_in, left_by, upper_in, is_writing, prepared_in, prepared, overtaken, passed, without, ended_in, with_access};
 ghost use Rattle.range_control.specs.Ends.{first_by, upper_before};
 
 use crate::ends::{Upper, least_upper};
 use deneva_base::{Attempt, Mode, NoMemory, Number};
+use key_table::Empty;
 use std::alloc::Global;
+use std::marker::Model;
 
 /// The window that an attempt voted, and whether it is to write the key.
 #[derive(Clone, Copy, Debug)]
@@ -88,24 +90,34 @@ impl Held {
 /// to it committed.
 #[derive(Drop)]
 pub(crate) struct Line {
-    pub held: Vec<Held>,
-    pub past: u64,
+    held: Vec<Held>,
+    past: u64,
 }
 
-impl Line {
-    pub fn new(alloc: Global) -> Line
-        ensures { accesses_of result ≡ no_accesses }
-    {
+impl Model for Line {
+    ghost use Rattle.range_control.specs.Seen.{Accesses};
+
+    ghost Value = { Accesses };
+
+    ghost view = { λ l. record { held = l.held.items; past = l.past } };
+}
+
+impl Empty for Line {
+    ghost empty = { no_accesses };
+
+    fn empty(alloc: Global) -> Line {
         Line {
             held: Vec::new(alloc),
             past: 0,
         }
     }
+}
 
+impl Line {
     /// One past all numbers of committed attempts and all upper ends of prepared ones that accessed the key.
     pub fn past(&self) -> u64
-        requires small { past_over (accesses_of self.now) < 2 ^ 64 }
-        ensures { result ≡ past_over (accesses_of self.now) }
+        requires small { past_over self.now < 2 ^ 64 }
+        ensures { result ≡ past_over self.now }
     {
         let mut past = self.past;
         for held in &self.held {
@@ -118,7 +130,7 @@ impl Line {
 
     /// The attempt's access.
     fn own(&self, who: Attempt) -> Option<Held>
-        ensures { result ≡ own_in who self.now.held.items }
+        ensures { result ≡ own_in who self.now.held }
     {
         for held in &self.held {
             if held.who == who {
@@ -131,9 +143,9 @@ impl Line {
     /// What the attempt's access asks of the lower end: one past the version that it read, and where the key is to be
     /// written what passes all its accesses.
     pub fn low(&self, who: Attempt, is_written: bool) -> u64
-        requires past { past_over (accesses_of self.now) < 2 ^ 64 }
-        requires low { low_in is_written (past_over (accesses_of self.now)) (own_in who self.now.held.items) < 2 ^ 64 }
-        ensures { result ≡ low_in is_written (past_over (accesses_of self.now)) (own_in who self.now.held.items) }
+        requires past { past_over self.now < 2 ^ 64 }
+        requires low { low_in is_written (past_over self.now) (own_in who self.now.held) < 2 ^ 64 }
+        ensures { result ≡ low_in is_written (past_over self.now) (own_in who self.now.held) }
     {
         let Some(own) = self.own(who) else {
             return 0;
@@ -152,7 +164,7 @@ impl Line {
 
     /// The least upper end that committed and prepared attempts leave this access.
     fn upper_of(&self, own: &Held) -> Option<Upper>
-        ensures { result ≡ first_by upper_before (left_by own.now.who own.now.version) own.now.upper self.now.held.items }
+        ensures { result ≡ first_by upper_before (left_by own.now.who own.now.version) own.now.upper self.now.held }
     {
         let mut best = own.upper;
         for held in &self.held {
@@ -163,7 +175,7 @@ impl Line {
 
     /// The least upper end that they leave the attempt's access, where it reads.
     pub fn upper(&self, who: Attempt) -> Option<Upper>
-        ensures { result ≡ upper_in self.now.held.items (own_in who self.now.held.items) }
+        ensures { result ≡ upper_in self.now.held (own_in who self.now.held) }
     {
         match self.own(who) {
             Some(own) if own.mode.is_reading() => self.upper_of(&own),
@@ -173,8 +185,8 @@ impl Line {
 
     /// Adds an access.
     pub fn add(&mut self, access: Held) -> Result<(), NoMemory>
-        ensures ok { OnOk result (accesses_of self.new ≡ with_access access (accesses_of self.old)) }
-        ensures err { OnErr result (accesses_of self.new ≡ accesses_of self.old) }
+        ensures ok { OnOk result (self.new ≡ with_access access self.old) }
+        ensures err { OnErr result (self.new ≡ self.old) }
     {
         self.held.push(access)?;
         Ok(())
@@ -182,7 +194,7 @@ impl Line {
 
     /// Gives the attempt's access its window.
     pub fn prepare(&mut self, who: Attempt, window: Window)
-        ensures { accesses_of self.new ≡ prepared who window (accesses_of self.old) }
+        ensures { self.new ≡ prepared who window self.old }
     {
         for held in self.held.iter_mut() {
             *held = held.prepared(who, window);
@@ -191,7 +203,7 @@ impl Line {
 
     /// Lowers the upper ends of the accesses to versions that an attempt has overwritten.
     fn overtake(&mut self, by: Attempt, number: Number)
-        ensures held { self.new.held.items ≡ map (overtaken by number) self.old.held.items }
+        ensures held { self.new.held ≡ map (overtaken by number) self.old.held }
         ensures past { self.new.past ≡ self.old.past }
     {
         for held in self.held.iter_mut() {
@@ -202,7 +214,7 @@ impl Line {
     /// Where the attempt has an access, its number counts for the others.
     fn pass(&mut self, who: Attempt, number: Number)
         requires small { number.n < 2 ^ 48 }
-        ensures { accesses_of self.new ≡ passed who number (own_in who self.old.held.items) (accesses_of self.old) }
+        ensures { self.new ≡ passed who number (own_in who self.old.held) self.old }
     {
         let Some(own) = self.own(who) else {
             return;
@@ -215,7 +227,7 @@ impl Line {
 
     /// Takes out the attempt's access.
     fn leave(&mut self, who: Attempt)
-        ensures { accesses_of self.new ≡ without who (accesses_of self.old) }
+        ensures { self.new ≡ without who self.old }
     {
         self.held.retain(|held| held.who != who);
     }
@@ -223,7 +235,7 @@ impl Line {
     /// Takes out the access of an attempt, which commits where it has a number.
     pub fn end(&mut self, who: Attempt, number: Option<Number>)
         requires small { IfSome number (λ n. n.n < 2 ^ 48) }
-        ensures { accesses_of self.new ≡ ended_in who number (accesses_of self.old) }
+        ensures { self.new ≡ ended_in who number self.old }
     {
         if let Some(number) = number {
             self.pass(who, number);

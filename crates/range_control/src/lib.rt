@@ -4,7 +4,6 @@
 mod accesses;
 mod ends;
 mod lines;
-mod parts;
 mod ranges;
 mod table;
 mod threads;

@@ -4,18 +4,17 @@ ghost use Rattle.deneva_base.specs.declared.keys.Key.{Key};
 ghost use Rattle.protocol_rules.specs.Ranged.{lists};
 ghost use Rattle.range_control.specs.Ends.{first_by, upper_before, lower_before};
 ghost use Rattle.range_control.specs.Accesses.{no_accesses, past_over, prepared, ended_in, with_access};
-ghost use Rattle.range_control.specs.Tables.{accesses_at, low_at, lower_at, upper_at, prepared_at, changed, SetsAccesses, SameAccesses};
+ghost use Rattle.range_control.specs.Tables.{accesses_at, low_at, lower_at, upper_at, prepared_at, all_changed, SetsAccesses, SameAccesses};
 
 use crate::accesses::{Held, Line, Window};
 use crate::ends::{Upper, greatest_lower, least_upper};
 use deneva_base::{Attempt, Bound, Key, Keyed, NoMemory, Number};
+use key_table::Table;
 use std::alloc::Global;
-use std::collections::HashMap;
 
 #[derive(Drop)]
 pub(crate) struct Lines {
-    alloc: Global,
-    lines: HashMap<Key, Line>,
+    lines: Table<Key, Line>,
 }
 
 /// Whether there is a row of the key.
@@ -30,8 +29,7 @@ impl Lines {
         ensures { (key : Key) → accesses_at result key ≡ no_accesses }
     {
         Lines {
-            alloc,
-            lines: HashMap::new(alloc),
+            lines: Table::new(alloc),
         }
     }
 
@@ -40,7 +38,7 @@ impl Lines {
         requires small { past_over (accesses_at self.now key) < 2 ^ 64 }
         ensures { result ≡ past_over (accesses_at self.now key) }
     {
-        match self.lines.get(&key) {
+        match self.lines.get(key) {
             Some(line) => line.past(),
             None => 0,
         }
@@ -52,7 +50,7 @@ impl Lines {
         requires low { low_at self.now who writes.now key < 2 ^ 64 }
         ensures { result ≡ low_at self.now who writes.now key }
     {
-        match self.lines.get(&key) {
+        match self.lines.get(key) {
             Some(line) => line.low(who, is_listed(writes, key)),
             None => 0,
         }
@@ -76,7 +74,7 @@ impl Lines {
     fn upper(&self, key: Key, who: Attempt) -> Option<Upper>
         ensures { result ≡ upper_at self.now who key }
     {
-        match self.lines.get(&key) {
+        match self.lines.get(key) {
             Some(line) => line.upper(who),
             None => None,
         }
@@ -98,27 +96,22 @@ impl Lines {
         ensures ok { OnOk result (SetsAccesses self.old key (with_access access (accesses_at self.old key)) self.new) }
         ensures err { OnErr result (SameAccesses self.old self.new) }
     {
-        if let Some(line) = self.lines.get_mut(&key) {
-            return line.add(access);
-        }
-        let mut line = Line::new(self.alloc);
-        line.add(access)?;
-        self.lines.insert(key, line)?;
-        Ok(())
+        let line = self.lines.slot(key)?;
+        line.add(access)
     }
 
     /// Gives the attempt's access to the key its window.
     fn prepare(&mut self, key: Key, who: Attempt, window: Window)
         ensures { SetsAccesses self.old key (prepared who window (accesses_at self.old key)) self.new }
     {
-        if let Some(line) = self.lines.get_mut(&key) {
+        if let Some(line) = self.lines.get_mut(key) {
             line.prepare(who, window);
         }
     }
 
     /// Gives the attempt's accesses to these keys the window from `lo` to `hi`, where it is to write these rows.
     pub fn prepare_all(&mut self, keys: &[Key], who: Attempt, lo: u64, hi: u64, writes: &[Keyed])
-        ensures { (other : Key) → accesses_at self.new other ≡ changed (prepared_at who lo hi writes.now) keys.now other (accesses_at self.old other) }
+        ensures { (other : Key) → accesses_at self.new other ≡ all_changed (prepared_at who lo hi writes.now) keys.now other (accesses_at self.old other) }
     {
         for key in keys {
             let writes = is_listed(writes, *key);
@@ -131,7 +124,7 @@ impl Lines {
         requires small { IfSome number (λ n. n.n < 2 ^ 48) }
         ensures { SetsAccesses self.old key (ended_in who number (accesses_at self.old key)) self.new }
     {
-        if let Some(line) = self.lines.get_mut(&key) {
+        if let Some(line) = self.lines.get_mut(key) {
             line.end(who, number);
         }
     }
@@ -139,7 +132,7 @@ impl Lines {
     /// Takes out the accesses to these keys of an attempt, which commits where it has a number.
     pub fn end_all(&mut self, keys: &[Key], who: Attempt, number: Option<Number>)
         requires small { IfSome number (λ n. n.n < 2 ^ 48) }
-        ensures { (other : Key) → accesses_at self.new other ≡ changed (λ key. ended_in who number) keys.now other (accesses_at self.old other) }
+        ensures { (other : Key) → accesses_at self.new other ≡ all_changed (λ key. ended_in who number) keys.now other (accesses_at self.old other) }
     {
         for key in keys {
             self.end(*key, who, number);

@@ -38,8 +38,8 @@ impl<const SPAN: u64> Control for Ranges<SPAN> {
         Ok(Ranges { table })
     }
 
-    fn ask(&mut self, who: Attempt, _stamp: u64, key: Key, mode: Mode) -> Result<Answer, NoMemory> {
-        self.table.grant(who, key, mode)
+    fn ask(&mut self, who: Attempt, stamp: u64, key: Key, mode: Mode) -> Result<Answer, NoMemory> {
+        self.table.grant(who, stamp, key, mode)
     }
 
     fn prepare(
@@ -67,7 +67,7 @@ impl<const SPAN: u64> Control for Ranges<SPAN> {
     }
 
     fn rows(&self) -> Result<RowList, NoMemory> {
-        self.table.store.rows_in_order()
+        self.table.shelf.rows_in_order()
     }
 
     ghost obeys = { λ s loaded h stands. stands.obeys };

@@ -4,4 +4,4 @@ use Rattle.range_control.proofs.accesses.Line.own.Given as goal
 
 -- none of those so far is the attempt's
 abbrev pub invariant-loop-held : goal.invariant-loop-held
-invariant-loop-held l = own_in l.who (drop l.held-index l.self.held.items) ≡ own_in l.who l.self.held.items
+invariant-loop-held l = own_in l.who (drop l.held-index l.self.held) ≡ own_in l.who l.self.held

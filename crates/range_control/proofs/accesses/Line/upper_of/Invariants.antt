@@ -5,4 +5,4 @@ use Rattle.range_control.proofs.accesses.Line.upper_of.Given as goal
 
 -- the least so far with those that are left
 abbrev pub invariant-loop-held : goal.invariant-loop-held
-invariant-loop-held l = first_by upper_before (left_by l.own.who l.own.version) l.best (drop l.held-index l.self.held.items) ≡ first_by upper_before (left_by l.own.who l.own.version) l.own.upper l.self.held.items
+invariant-loop-held l = first_by upper_before (left_by l.own.who l.own.version) l.best (drop l.held-index l.self.held) ≡ first_by upper_before (left_by l.own.who l.own.version) l.own.upper l.self.held

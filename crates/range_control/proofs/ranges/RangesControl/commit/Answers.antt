@@ -1,12 +1,14 @@
 use Rattle.std.proofs.Common.{refl}
-use Rattle.range_control.proofs.Calls.{present, promised, commit_tracks}
+use Rattle.protocol_rules.specs.Maat.{maat}
+use Rattle.shelf.proofs.Versions.{present, promised}
+use Rattle.range_control.proofs.Calls.{wakes, commit_tracks}
 use Rattle.range_control.proofs.ranges.RangesControl.commit.Goals as goal
 
 pub end-requires-clause-present : goal.end-requires-clause-present
-end-requires-clause-present g c = let m = c.requires.may in present g.row.SPAN c.args.self.now.table m.0 m.1 m.2 c.args.who m.3.unended
+end-requires-clause-present g c = let m = c.requires.may in present (maat g.row.SPAN m.0) m.2.tracks.kept m.2.obeys (wakes g.row.SPAN c.args.self.now.table m.0 m.1 m.2) c.args.who m.3.unended
 
 pub end-requires-clause-promised : goal.end-requires-clause-promised
-end-requires-clause-promised g c = let m = c.requires.may in promised g.row.SPAN c.args.self.now.table m.0 m.1 m.2 c.args.who m.3.unended
+end-requires-clause-promised g c = let m = c.requires.may in promised (maat g.row.SPAN m.0) m.2.tracks.kept m.2.obeys c.args.who m.3.unended
 
 pub returns-clause-stands : goal.returns-clause-stands
 returns-clause-stands g c loaded h stands may = record { obeys = (may, refl, stands.obeys); tracks = commit_tracks g.row.SPAN c.args.self.now.table loaded h stands c.args.who c.args.number c.end.new.self may c.end.ensures }

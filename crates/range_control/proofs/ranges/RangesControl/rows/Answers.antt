@@ -1,9 +1,12 @@
 use Rattle.std.proofs.Common.{◌∙◌}
 use Rattle.std.proofs.lemmas.Result.{IfOk-weaker}
-use Rattle.range_control.proofs.Outcomes.{same_row}
-use Rattle.range_control.proofs.Calls.{rows_are}
+use Rattle.protocol_rules.specs.Maat.{maat}
+use Rattle.protocol_rules.proofs.Maats.{ranging}
+use Rattle.protocol_rules.proofs.Rangeds.{windows_law}
+use Rattle.shelf.proofs.Versions.{rows_are}
 use Rattle.range_control.proofs.ranges.RangesControl.rows.Goals as goal
 
 pub returns-clause-rows : goal.returns-clause-rows
 returns-clause-rows g c =
-    IfOk-weaker c.rows_in_order.result _ _ (λ rows e loaded h stands key. same_row rows key ∙ e key ∙ rows_are g.row.SPAN c.args.self.now.table loaded h stands key) c.rows_in_order.ensures.rows
+    IfOk-weaker c.rows_in_order.result _ _
+    (λ rows e loaded h stands key. e key ∙ rows_are (maat g.row.SPAN loaded) stands.tracks.kept stands.obeys (λ k o. windows_law loaded (maat g.row.SPAN loaded) (ranging g.row.SPAN loaded) k o) key) c.rows_in_order.ensures.rows
