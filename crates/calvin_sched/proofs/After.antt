@@ -27,19 +27,19 @@ use Rattle.server_core.specs.CalvinProper.{Valid}
 use Rattle.server_core.specs.Configs.{IsConfig}
 use Rattle.server_core.specs.Coordinator.{to_all}
 use Rattle.server_core.specs.GlobalOrder.{slots, batch, order, number}
-use Rattle.server_core.specs.Ordered.{takes_part, reading_at, has_batch, as_far, taken, is_finished, is_ready, applied, now}
+use Rattle.server_core.specs.CalvinScheduler.{takes_part, reading_at, has_batch, as_far, taken, is_finished, is_ready, applied, now}
 use Rattle.server_core.specs.Proper.{ids_in}
 use Rattle.server_core.specs.Setting.{Setting, setting, parts_for}
 use Rattle.server_core.specs.declared.messages.Msg.{Msg}
 use Rattle.server_core.specs.declared.messages.Msg.TheVariants.{Rows}
-use Rattle.server_core.proofs.ActiveLists.{active_finish, active_same}
-use Rattle.server_core.proofs.CalvinSettings as calvin
-use Rattle.server_core.proofs.OrderedLists.{not_both, not_true, flat_in}
-use Rattle.server_core.proofs.OrderedNodes.{number_is, as_far_in}
-use Rattle.server_core.proofs.OrderedSteps.{owned, rows_news}
-use Rattle.server_core.proofs.Orders.{order_once, order_in, ids-append, ids_filtered}
-use Rattle.server_core.proofs.StoredRows.{now_finish}
-use Rattle.server_core.proofs.TakenBatches.{as_far_splits}
+use Rattle.calvin_laws.proofs.node.ActiveLists.{active_finish, active_same}
+use Rattle.server_core.proofs.configured.CalvinSettings as calvin
+use Rattle.server_core.proofs.lists.ListTests.{not_both, not_true, flat_in}
+use Rattle.calvin_laws.proofs.order.Nodes.{number_is, as_far_in}
+use Rattle.calvin_laws.proofs.node.Steps.{owned, rows_news}
+use Rattle.calvin_laws.proofs.order.Orders.{order_once, order_in, ids-append, ids_filtered}
+use Rattle.calvin_laws.proofs.node.StoredRows.{now_finish}
+use Rattle.calvin_laws.proofs.order.TakenBatches.{as_far_splits}
 use Rattle.calvin_seq.specs.Places.{setting_of, accesses_at}
 use Rattle.calvin_seq.specs.declared.place.Place.{Place}
 use Rattle.calvin_sched.specs.Asked.{asked, requests_of, request_of}

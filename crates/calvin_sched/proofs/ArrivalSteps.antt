@@ -3,7 +3,7 @@ use Rattle.std.proofs.Common.{◌≡◌, List, Bool, true, false, cond, Some, re
 use Rattle.std.specs.Map.{lookup}
 use Rattle.deneva_base.specs.Keys.{id_eq}
 use Rattle.deneva_base.specs.declared.numbers.TxnId.{TxnId}
-use Rattle.server_core.proofs.OrderedLists.{id_tells}
+use Rattle.server_core.proofs.lists.ListTests.{id_tells}
 use Rattle.calvin_sched.specs.Arrivals.{arrivals_in}
 use Rattle.calvin_sched.specs.declared.arrivals.Arrived.{Arrived}
 

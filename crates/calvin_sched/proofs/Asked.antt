@@ -11,12 +11,12 @@ use Rattle.deneva_base.specs.Modes.{writes}
 use Rattle.deneva_base.specs.Partitions.{partition_of}
 use Rattle.deneva_base.proofs.Membership.{key_tells, in_filter, filter_in, in_map_from, any_at, any_found, and_parts, and_true}
 use Rattle.server_core.specs.Setting.{Setting}
-use Rattle.server_core.specs.Ordered.{takes_part, collide, clash}
+use Rattle.server_core.specs.CalvinScheduler.{takes_part, collide, clash}
 use Rattle.server_core.specs.GlobalOrder.{before}
 use Rattle.server_core.specs.ActiveList.{is_first, without}
 use Rattle.server_core.specs.Proper.{keys_in, ids_in}
-use Rattle.server_core.proofs.OrderedLists.{not_true, not_both, is_or_not, id_tells, id_self, all_at, all_from, flat_in}
-use Rattle.server_core.proofs.RowFolds.{filter-append}
+use Rattle.server_core.proofs.lists.ListTests.{not_true, not_both, is_or_not, id_tells, id_self, all_at, all_from, flat_in}
+use Rattle.server_core.proofs.lists.RowFolds.{filter-append}
 use Rattle.calvin_seq.specs.Places.{accesses_at}
 use Rattle.calvin_sched.specs.Queues.{for_key, without_first, left_by, is_free, heads}
 use Rattle.calvin_sched.specs.Asked.{request_of, requests_of, asked, all_free, Frees}

@@ -13,18 +13,18 @@ use Rattle.server_core.specs.Calvin.{became_ready}
 use Rattle.server_core.specs.CalvinFits.{AllFit}
 use Rattle.server_core.specs.CalvinProper.{Valid}
 use Rattle.server_core.specs.GlobalOrder.{Slot, slots, epochs, batch, order, has_id}
-use Rattle.server_core.specs.Ordered.{takes_part, has_batch, as_far, taken, is_finished, is_ready, unblocked}
+use Rattle.server_core.specs.CalvinScheduler.{takes_part, has_batch, as_far, taken, is_finished, is_ready, unblocked}
 use Rattle.server_core.specs.Proper.{ids_in as ids_of}
 use Rattle.server_core.specs.Setting.{Setting}
 use Rattle.server_core.specs.declared.messages.Msg.TheVariants.{Batch}
 use Rattle.server_core.specs.declared.messages.Msg.{Msg}
-use Rattle.server_core.proofs.ActiveLists.{ready_among, became_active, active_batch}
-use Rattle.server_core.proofs.OrderedLists.{in_has, has_in, is_or_not, not_both, not_true, same_number, id_self}
-use Rattle.server_core.proofs.OrderedNodes.{number_is, as_far_in}
-use Rattle.server_core.proofs.Orders.{order_once, ids-append}
+use Rattle.calvin_laws.proofs.node.ActiveLists.{ready_among, became_active, active_batch}
+use Rattle.server_core.proofs.lists.ListTests.{in_has, has_in, is_or_not, not_both, not_true, same_number, id_self}
+use Rattle.calvin_laws.proofs.order.Nodes.{number_is, as_far_in}
+use Rattle.calvin_laws.proofs.order.Orders.{order_once, ids-append}
 use Rattle.deneva_base.specs.Keys.{id_eq}
-use Rattle.server_core.proofs.OrderedSteps.{batch_news}
-use Rattle.server_core.proofs.RowFolds.{filter-append}
+use Rattle.calvin_laws.proofs.node.Steps.{batch_news}
+use Rattle.server_core.proofs.lists.RowFolds.{filter-append}
 use Rattle.calvin_sched.specs.Asked.{asked, all_free}
 use Rattle.calvin_sched.specs.Batches.{came, ids_in, newly}
 use Rattle.calvin_sched.specs.Queues.{for_key}

@@ -11,11 +11,11 @@ use Rattle.deneva_base.specs.Partitions.{partition_of}
 use Rattle.deneva_base.specs.Rows.{row_at}
 use Rattle.txn_program.specs.Transactions.{reading}
 use Rattle.server_core.specs.CalvinFits.{Suits, AllFit}
-use Rattle.server_core.specs.Ordered.{has_rows, rows_from, is_finished, collected}
+use Rattle.server_core.specs.CalvinScheduler.{has_rows, rows_from, is_finished, collected}
 use Rattle.server_core.specs.Setting.{Setting, parts_for}
 use Rattle.server_core.specs.declared.messages.Msg.{Msg}
 use Rattle.server_core.specs.declared.messages.Msg.TheVariants.{Tick, Rows}
-use Rattle.server_core.proofs.OrderedLists.{all_at, is_or_not, not_both, id_self, id_tells}
+use Rattle.server_core.proofs.lists.ListTests.{all_at, is_or_not, not_both, id_self, id_tells}
 use Rattle.calvin_sched.specs.Arrivals.{arrivals_at, has_come, rows_of_part, Sets}
 use Rattle.calvin_sched.specs.Reading.{rows_with, is_complete, collected_from}
 use Rattle.calvin_sched.specs.Standing.{came_for, HasArrivals}

@@ -9,12 +9,12 @@ use Rattle.deneva_base.specs.Keys.{id_eq}
 use Rattle.deneva_base.specs.Lists.{IsIn}
 use Rattle.txn_program.specs.Transactions.{numbers_below}
 use Rattle.server_core.specs.CalvinFits.{Suits, AllFit}
-use Rattle.server_core.specs.Ordered.{has_rows, takes_part}
+use Rattle.server_core.specs.CalvinScheduler.{has_rows, takes_part}
 use Rattle.server_core.specs.Setting.{Setting, parts_for}
 use Rattle.server_core.specs.declared.messages.Msg.{Msg}
 use Rattle.server_core.specs.declared.messages.Msg.TheVariants.{Tick, Rows}
-use Rattle.server_core.proofs.OrderedLists.{not_both, id_self, id_tells}
-use Rattle.server_core.proofs.OrderedNodes.{participant_is}
+use Rattle.server_core.proofs.lists.ListTests.{not_both, id_self, id_tells}
+use Rattle.calvin_laws.proofs.order.Nodes.{participant_is}
 use Rattle.calvin_seq.proofs.Counts.{few_pass}
 use Rattle.calvin_sched.specs.Arrivals.{arrivals_at}
 use Rattle.calvin_sched.specs.Reading.{is_complete}

@@ -16,16 +16,16 @@ use Rattle.server_core.specs.Calvin.{became_ready}
 use Rattle.server_core.specs.CalvinFits.{Suits, AllFit}
 use Rattle.server_core.specs.CalvinProper.{Valid}
 use Rattle.server_core.specs.GlobalOrder.{order, before, number}
-use Rattle.server_core.specs.Ordered.{takes_part, collide, clash, has_rows, rows_from, taken, is_finished, is_ready}
+use Rattle.server_core.specs.CalvinScheduler.{takes_part, collide, clash, has_rows, rows_from, taken, is_finished, is_ready}
 use Rattle.server_core.specs.Setting.{Setting, parts_for}
 use Rattle.server_core.specs.declared.messages.Msg.{Msg}
 use Rattle.server_core.specs.declared.messages.Msg.TheVariants.{Rows}
-use Rattle.server_core.proofs.ActiveLists.{ready_among, became_active, active_finish}
-use Rattle.server_core.proofs.OrderedLists.{all_at, flat_in, in_flat, id_tells, is_or_not, not_both, not_true, or_cases}
-use Rattle.server_core.proofs.OrderedNodes.{Ready, ready_is, rows_in, finished_more, number_is}
-use Rattle.server_core.proofs.OrderedSteps.{owned, own_fit, rows_news}
-use Rattle.server_core.proofs.OrderNumbers.{rising}
-use Rattle.server_core.proofs.SerialTurns.{clash_there}
+use Rattle.calvin_laws.proofs.node.ActiveLists.{ready_among, became_active, active_finish}
+use Rattle.server_core.proofs.lists.ListTests.{all_at, flat_in, in_flat, id_tells, is_or_not, not_both, not_true, or_cases}
+use Rattle.calvin_laws.proofs.order.Nodes.{Ready, ready_is, rows_in, finished_more, number_is}
+use Rattle.calvin_laws.proofs.node.Steps.{owned, own_fit, rows_news}
+use Rattle.calvin_laws.proofs.order.OrderNumbers.{rising}
+use Rattle.calvin_laws.proofs.serial.SerialTurns.{clash_there}
 use Rattle.calvin_seq.specs.Places.{accesses_at}
 use Rattle.calvin_sched.specs.Asked.{asked, all_free, Frees}
 use Rattle.calvin_sched.specs.Freed.{freed_on, freed_by, put_numbers, RisingNumbers}

@@ -20,9 +20,9 @@ use Rattle.txn_program.specs.declared.programs.Program.{Program}
 use Rattle.txn_program.specs.declared.programs.Workload.{Workload}
 use Rattle.txn_program.proofs.Ids.{id_between, id_for_each}
 use Rattle.server_core.specs.GlobalOrder.{number}
-use Rattle.server_core.specs.Ordered.{takes_part}
+use Rattle.server_core.specs.CalvinScheduler.{takes_part}
 use Rattle.server_core.specs.Setting.{Setting}
-use Rattle.server_core.proofs.OrderedLists.{flat_in}
+use Rattle.server_core.proofs.lists.ListTests.{flat_in}
 use Rattle.calvin_seq.specs.Places.{setting_of, accesses_at}
 use Rattle.calvin_seq.specs.declared.place.Place.{Place}
 use Rattle.calvin_sched.specs.Asked.{all_free}

@@ -17,15 +17,15 @@ use Rattle.server_core.specs.CalvinFits.{Suits, AllFit}
 use Rattle.server_core.specs.CalvinProper.{Valid}
 use Rattle.server_core.specs.Fits.{suits_under}
 use Rattle.server_core.specs.GlobalOrder.{slots, epochs, batch, number}
-use Rattle.server_core.specs.Ordered.{takes_part, as_far, has_batch, is_finished}
+use Rattle.server_core.specs.CalvinScheduler.{takes_part, as_far, has_batch, is_finished}
 use Rattle.server_core.specs.Roles.{FitsRole, said_by}
 use Rattle.server_core.specs.Says.{says_under}
 use Rattle.server_core.specs.Setting.{Setting, loaded_at}
 use Rattle.server_core.specs.declared.messages.Msg.{Msg}
 use Rattle.server_core.specs.declared.messages.Msg.TheVariants.{Tick, Batch, Rows, Finished}
-use Rattle.server_core.proofs.CalvinSettings as calvin
-use Rattle.server_core.proofs.OrderedLists.{flat_in}
-use Rattle.server_core.proofs.Orders.{batch_in}
+use Rattle.server_core.proofs.configured.CalvinSettings as calvin
+use Rattle.server_core.proofs.lists.ListTests.{flat_in}
+use Rattle.calvin_laws.proofs.order.Orders.{batch_in}
 use Rattle.std.proofs.lemmas.List.{length-map}
 use Rattle.calvin_seq.specs.Places.{role_of, setting_of}
 use Rattle.calvin_sched.specs.Arrivals.{arrivals_at}

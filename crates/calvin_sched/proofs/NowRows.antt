@@ -20,7 +20,7 @@ use Rattle.row_store.specs.declared.versions.Version.{Version}
 use Rattle.server_core.specs.Calvin.{rows_mails}
 use Rattle.server_core.specs.Configs.{IsConfig}
 use Rattle.server_core.specs.Coordinator.{to_all}
-use Rattle.server_core.specs.Ordered.{reading_at, now}
+use Rattle.server_core.specs.CalvinScheduler.{reading_at, now}
 use Rattle.server_core.specs.Setting.{Setting, setting, parts_for}
 use Rattle.server_core.specs.declared.messages.Msg.{Msg}
 use Rattle.server_core.specs.declared.messages.Msg.TheVariants.{Rows}

@@ -8,8 +8,7 @@ use Rattle.deneva_base.specs.Lists.{IsIn}
 use Rattle.deneva_base.proofs.Membership.{in_cases, in_map_from}
 use Rattle.txn_program.specs.Transactions.{numbers_below}
 use Rattle.server_core.specs.GlobalOrder.{Slot, slots_of}
-use Rattle.server_core.proofs.OrderedBounds.{below_length}
-use Rattle.server_core.proofs.OrderedLists.{map_same, below_in}
+use Rattle.server_core.proofs.lists.ListTests.{below_length, map_same, below_in}
 
 abbrev at : ℕ → ℕ → Slot
 at e q = record { epoch = e; seq = q }

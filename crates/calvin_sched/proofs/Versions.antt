@@ -29,17 +29,17 @@ use Rattle.server_core.specs.Configs.{IsConfig}
 use Rattle.server_core.specs.Coordinator.{at_part}
 use Rattle.server_core.specs.Effects.{leaves, written, appended}
 use Rattle.server_core.specs.GlobalOrder.{order, number}
-use Rattle.server_core.specs.Ordered.{has_rows, rows_from, is_finished, collected, applied, changed, now}
+use Rattle.server_core.specs.CalvinScheduler.{has_rows, rows_from, is_finished, collected, applied, changed, now}
 use Rattle.server_core.specs.Setting.{Setting, setting, parts_for}
 use Rattle.server_core.specs.declared.messages.Msg.{Msg}
 use Rattle.server_core.specs.declared.messages.Msg.TheVariants.{Tick, Batch, Rows, Finished}
-use Rattle.server_core.proofs.CalvinSettings as calvin
-use Rattle.server_core.proofs.OrderNumbers.{rising}
-use Rattle.server_core.proofs.OrderedLists.{all_at, is_or_not, id_tells, not_both}
-use Rattle.server_core.proofs.OrderedNodes.{access_there}
-use Rattle.server_core.proofs.Orders.{order_in, in_order, split_at}
-use Rattle.server_core.proofs.RowFolds.{filter-append}
-use Rattle.server_core.proofs.Workloads as workload
+use Rattle.server_core.proofs.configured.CalvinSettings as calvin
+use Rattle.calvin_laws.proofs.order.OrderNumbers.{rising}
+use Rattle.server_core.proofs.lists.ListTests.{all_at, is_or_not, id_tells, not_both}
+use Rattle.calvin_laws.proofs.order.Nodes.{access_there}
+use Rattle.calvin_laws.proofs.order.Orders.{order_in, in_order, split_at}
+use Rattle.server_core.proofs.lists.RowFolds.{filter-append}
+use Rattle.server_core.proofs.configured.Workloads as workload
 use Rattle.calvin_sched.specs.Versions.{offered, versions, version}
 
 -- numbers

@@ -2,7 +2,7 @@
 use Rattle.std.specs.Prelude.{◌≡◌, ℕ, List, [], length, slice_set, Option, Some, None, is_some, drop}
 use Rattle.std.specs.List.{flat_map}
 use Rattle.deneva_base.specs.declared.numbers.TxnId.{TxnId}
-use Rattle.server_core.specs.Ordered.{as_far}
+use Rattle.server_core.specs.CalvinScheduler.{as_far}
 use Rattle.calvin_sched.specs.declared.batches.Batches.{Batches}
 
 abbrev pub came : Batches → List (Option (List TxnId))

@@ -10,7 +10,7 @@ use Rattle.row_store.specs.Stores.{Seen, version_at}
 use Rattle.server_core.specs.ActiveList.{active}
 use Rattle.server_core.specs.CalvinFits.{AllFit}
 use Rattle.server_core.specs.GlobalOrder.{Slot, slots, batch, number}
-use Rattle.server_core.specs.Ordered.{has_batch, is_finished}
+use Rattle.server_core.specs.CalvinScheduler.{has_batch, is_finished}
 use Rattle.server_core.specs.Setting.{Setting, parts_for}
 use Rattle.server_core.specs.declared.messages.Msg.TheVariants as msg
 use Rattle.server_core.specs.declared.messages.Msg.{Msg}

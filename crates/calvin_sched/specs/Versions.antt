@@ -8,7 +8,7 @@ use Rattle.deneva_base.specs.declared.rows.Keyed.{Keyed}
 use Rattle.row_store.specs.Stores.{loaded, numbered, newest}
 use Rattle.row_store.specs.declared.versions.Version.{Version}
 use Rattle.server_core.specs.GlobalOrder.{order, number}
-use Rattle.server_core.specs.Ordered.{is_finished, applied}
+use Rattle.server_core.specs.CalvinScheduler.{is_finished, applied}
 use Rattle.server_core.specs.Setting.{Setting}
 use Rattle.server_core.specs.declared.messages.Msg.{Msg}
 

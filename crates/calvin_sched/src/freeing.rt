@@ -6,7 +6,7 @@ ghost use Rattle.deneva_base.specs.Modes.{writes};
 ghost use Rattle.deneva_base.specs.declared.numbers.TxnId as txns;
 ghost use Rattle.txn_program.specs.Serial.{all_ids};
 ghost use Rattle.server_core.specs.GlobalOrder.{number};
-ghost use Rattle.server_core.specs.Ordered.{takes_part};
+ghost use Rattle.server_core.specs.CalvinScheduler.{takes_part};
 ghost use Rattle.calvin_sched.specs.Asked.{asked, all_free, requests_of};
 ghost use Rattle.calvin_sched.specs.Freed.{freed_on, freed_by, put_numbers};
 ghost use Rattle.calvin_sched.specs.Known.{HasNumbers, AreKnown};

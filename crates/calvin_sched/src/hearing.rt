@@ -7,7 +7,7 @@ ghost use Rattle.row_store.specs.Stores.{row_in};
 ghost use Rattle.txn_program.specs.Serial.{all_ids};
 ghost use Rattle.server_core.specs.Calvin.{says, finished_mail};
 ghost use Rattle.server_core.specs.CalvinFits.{Suits};
-ghost use Rattle.server_core.specs.Ordered.{takes_part};
+ghost use Rattle.server_core.specs.CalvinScheduler.{takes_part};
 ghost use Rattle.server_core.specs.declared.messages.Msg as messages;
 ghost use Rattle.server_core.specs.declared.messages.Msg.TheVariants as msg;
 ghost use Rattle.calvin_sched.specs.Arrivals.{arrivals_at};

@@ -1,7 +1,7 @@
 //! A node of Calvin.
 ghost use Rattle.std.specs.Prelude.{◌≡◌};
 ghost use Rattle.deneva_base.specs.declared.config.Protocol.TheVariants.{Calvin};
-ghost use Rattle.server_core.proofs.Served.{mails_fit_any, runs_end_any, mails_land_any, rows_kept_apart_any};
+ghost use Rattle.calvin_laws.proofs.NodeLaws.{mails_fit, runs_end, mails_land, rows_kept_apart};
 ghost use Rattle.calvin_seq.specs.Places.{role_of};
 ghost use Rattle.calvin_sched.specs.Standing.{CalvinStands};
 
@@ -52,13 +52,13 @@ impl<'w> Handles for CalvinNode<'w> {
         self.store.rows_in_order()
     }
 
-    ghost fits = { λ c w H flight is config valid run. mails_fit_any c w H flight config valid run };
+    ghost fits = { λ c w H flight is config valid run. mails_fit c w H flight is config valid run };
 
-    ghost ends = { λ c w H flight is config valid run. runs_end_any c w H flight config valid run };
+    ghost ends = { λ c w H flight is config valid run. runs_end c w H flight is config valid run };
 
-    ghost lands = { λ c w H flight x is config valid run i. mails_land_any c w H flight x config valid run i };
+    ghost lands = { λ c w H flight x is config valid run i. mails_land c w H flight is config valid run x i };
 
-    ghost keeps_apart = { λ c w H flight p key is config valid run other. rows_kept_apart_any c w H flight p key config valid run other };
+    ghost keeps_apart = { λ c w H flight p key is config valid run other. rows_kept_apart c w H flight is config valid run p key other };
 }
 
 impl<'w> Server<'w> for CalvinNode<'w> {

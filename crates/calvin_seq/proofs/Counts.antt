@@ -13,7 +13,7 @@ use Rattle.txn_program.specs.declared.programs.Workload.{Workload}
 use Rattle.txn_program.proofs.Ids.{few_ids}
 use Rattle.server_core.specs.GlobalOrder.{eights, epochs, index_of, number, number_at}
 use Rattle.server_core.specs.Setting.{Setting, setting, home, homes}
-use Rattle.server_core.proofs.OrderedLists.{id_tells, id_self, same_number}
+use Rattle.server_core.proofs.lists.ListTests.{id_tells, id_self, same_number}
 use Rattle.calvin_seq.proofs.Places.{id_of, homes_until, home_at}
 
 -- with one element more in front

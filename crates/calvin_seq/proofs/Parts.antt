@@ -11,7 +11,7 @@ use Rattle.txn_program.specs.declared.programs.Program.{Program}
 use Rattle.txn_program.specs.declared.programs.Program.TheVariants.{Ycsb}
 use Rattle.txn_program.specs.declared.programs.Workload.{Workload}
 use Rattle.server_core.specs.Setting.{setting, parts_for}
-use Rattle.server_core.proofs.OrderedBounds.{below_length}
+use Rattle.server_core.proofs.lists.ListTests.{below_length}
 use Rattle.calvin_seq.proofs.Counts.{few_pass}
 use Rattle.calvin_seq.proofs.Places.{id_of}
 

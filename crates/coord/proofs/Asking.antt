@@ -17,7 +17,7 @@ use Rattle.server_core.specs.Coordinator.{coordinator, next_ask, prepare_to, eff
 use Rattle.server_core.specs.Replies.{Reply, all_voted, all_closed}
 use Rattle.server_core.specs.Setting.{Setting, take_first, parts_of, parts_for}
 use Rattle.server_core.specs.VotingFits.{AllFit, IsAsking}
-use Rattle.server_core.proofs.Prepares.{slice_some, slice_none}
+use Rattle.server_core.proofs.counts.Prepares.{slice_some, slice_none}
 use Rattle.coord.specs.Bounds.{bound_with}
 use Rattle.coord.specs.Left.{left_to_vote, left_to_close}
 use Rattle.coord.specs.States.{State, taken, going_on, next_mails, granted, granted_as, granted_mails, mails_as, refused, refused_mails, participants_of, row_read, asked_of}

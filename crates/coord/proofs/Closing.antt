@@ -11,9 +11,9 @@ use Rattle.server_core.specs.declared.messages.Msg.TheVariants.{Start, Commit, D
 use Rattle.server_core.specs.Coordinator.{coordinator, next_start, overs}
 use Rattle.server_core.specs.Setting.{Setting}
 use Rattle.server_core.specs.VotingFits.{Suits, AllFit}
-use Rattle.server_core.proofs.Conditions.{undone_before}
-use Rattle.server_core.proofs.Origins.{aborted_started}
-use Rattle.server_core.proofs.Starts.{started_turn}
+use Rattle.server_core.proofs.values.EarlierTurns.{undone_before}
+use Rattle.server_core.proofs.values.Origins.{aborted_started}
+use Rattle.server_core.proofs.counts.Starts.{started_turn}
 use Rattle.coord.specs.Left.{left_to_close}
 use Rattle.coord.specs.States.{State, done, done_as, undone, undone_as, if_none_left, undone_mails, risen, with_left, without}
 use Rattle.coord.specs.Following.{Heard, heard_of, turns_of, told_to, IsPolled, HasDecided, IsAborted, HasEnded, Closes, IsInPhase, IsCurrent, IsShut, Follows}

@@ -11,7 +11,7 @@ use Rattle.server_core.specs.Coordinator.{reads_of}
 use Rattle.server_core.specs.Proper.{keys_in}
 use Rattle.server_core.specs.Replies.{Reply, Ballot, all_voted, all_closed}
 use Rattle.server_core.specs.Setting.{parts_of}
-use Rattle.server_core.proofs.Conditions.{parts_in}
+use Rattle.server_core.proofs.lists.Parts.{parts_in}
 use Rattle.coord.specs.Left.{left_to_vote, left_to_close}
 use Rattle.coord.specs.States.{row_read}
 use Rattle.coord.proofs.OneMore.{read_by, reads_newest, voted_none, closed_none}

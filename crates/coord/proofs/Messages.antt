@@ -22,7 +22,7 @@ use Rattle.server_core.specs.VotingFits.{Suits}
 use Rattle.server_core.specs.declared.messages.Mail.{Mail}
 use Rattle.server_core.specs.declared.messages.Msg.{Msg}
 use Rattle.server_core.specs.declared.messages.Msg.TheVariants.{Start, Granted, Refused, Yes, No, Done, Undone}
-use Rattle.server_core.proofs.Origins.{started_ids}
+use Rattle.server_core.proofs.values.Origins.{started_ids}
 use Rattle.coord.specs.declared.coord.Coord.{Coord}
 use Rattle.coord.specs.Attempts.{setting_at}
 use Rattle.coord.specs.Moves.{Moved, stamp_for, started_by, counted_by}

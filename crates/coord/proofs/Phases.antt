@@ -10,9 +10,9 @@ use Rattle.server_core.specs.declared.messages.Msg.{Msg}
 use Rattle.server_core.specs.Setting.{Setting, participants}
 use Rattle.server_core.specs.Replies.{Ballot, votes_for, closes_for}
 use Rattle.server_core.specs.VotingFits.{AllFit, IsAsking, HasAll, HasVoted}
-use Rattle.server_core.proofs.Decisions.{asks_no_more}
-use Rattle.server_core.proofs.Ends.{not_all, off_if}
-use Rattle.server_core.proofs.Lines.{closed_there}
+use Rattle.server_core.proofs.values.Decisions.{asks_no_more}
+use Rattle.server_core.proofs.counts.Ends.{not_all, off_if}
+use Rattle.server_core.proofs.values.Closed.{closed_there}
 use Rattle.coord.specs.States.{State}
 use Rattle.coord.specs.Following.{Heard, heard_of, turns_of, told_to, IsPolled, HasEnded, Asks, Polls, Closes, Restarts, IsInPhase, IsCurrent, Follows}
 use Rattle.coord.proofs.Turns.{current}

@@ -17,11 +17,11 @@ use Rattle.server_core.specs.Setting.{Setting}
 use Rattle.server_core.specs.Stamps.{counter, stamp_from, stamped}
 use Rattle.server_core.specs.VotingFits.{Suits, AllFit, AllUndone}
 use Rattle.server_core.specs.VotingFits as fits
-use Rattle.server_core.proofs.Asks.{unstarted}
-use Rattle.server_core.proofs.Closings.{fate}
-use Rattle.server_core.proofs.Conditions.{undone_before, not_both}
-use Rattle.server_core.proofs.Ends.{off_if}
-use Rattle.server_core.proofs.Origins.{aborted_started, refused_starts}
+use Rattle.server_core.proofs.counts.Asks.{unstarted}
+use Rattle.server_core.proofs.values.Closings.{fate}
+use Rattle.server_core.proofs.values.EarlierTurns.{undone_before, not_both}
+use Rattle.server_core.proofs.counts.Ends.{off_if}
+use Rattle.server_core.proofs.values.Origins.{aborted_started, refused_starts}
 use Rattle.coord.specs.States.{State, begun, kept_stamp}
 use Rattle.coord.specs.Following.{Heard, heard_of, turns_of, Asks, IsShut, Follows}
 use Rattle.coord.proofs.Turns.{itself}

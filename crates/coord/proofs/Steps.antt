@@ -24,8 +24,8 @@ use Rattle.server_core.specs.Stamps.{counter, raised, stamp_from, stamped}
 use Rattle.server_core.specs.VotingFits.{Suits}
 use Rattle.server_core.specs.declared.messages.Msg.{Msg}
 use Rattle.server_core.specs.declared.messages.Msg.TheVariants.{Start, Done, Undone}
-use Rattle.server_core.proofs.Prepares.{slice_none}
-use Rattle.server_core.proofs.ValidSettings.{valid}
+use Rattle.server_core.proofs.counts.Prepares.{slice_none}
+use Rattle.server_core.proofs.configured.ValidSettings.{valid}
 use Rattle.coord.specs.declared.coord.Coord.{Coord}
 use Rattle.coord.specs.declared.home.Home.{Home}
 use Rattle.coord.specs.Attempts.{setting_at}

@@ -9,8 +9,8 @@ use Rattle.server_core.specs.declared.messages.Msg.{Msg}
 use Rattle.server_core.specs.declared.messages.Msg.TheVariants.{Start, Ask, Granted, Refused, Yes, No, Done, Undone}
 use Rattle.server_core.specs.Setting.{Setting}
 use Rattle.server_core.specs.VotingFits.{AllFit}
-use Rattle.server_core.proofs.Conditions.{undone_before}
-use Rattle.server_core.proofs.Starts.{started_turn}
+use Rattle.server_core.proofs.values.EarlierTurns.{undone_before}
+use Rattle.server_core.proofs.counts.Starts.{started_turn}
 use Rattle.coord.specs.States.{State}
 use Rattle.coord.specs.Following.{Heard, heard_of, turns_of, HasEnded, IsCurrent, Follows}
 

@@ -22,7 +22,7 @@ use Rattle.server_core.specs.Participant.{calls}
 use Rattle.server_core.specs.Proper.{Valid}
 use Rattle.server_core.specs.Setting.{Setting, rule_at}
 use Rattle.server_core.specs.VotingFits.{AllFit}
-use Rattle.server_core.proofs.Called.{knows, traces}
+use Rattle.server_core.proofs.values.Called.{knows, traces}
 
 -- no more accesses are woken than wait
 filter_shorter : (p : Asked → Bool) (xs : List Asked) → length (filter p xs) ≤ length xs

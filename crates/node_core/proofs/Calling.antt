@@ -19,9 +19,9 @@ use Rattle.server_core.specs.Proper.{Valid}
 use Rattle.server_core.specs.Roles.{FitsRole}
 use Rattle.server_core.specs.Setting.{Setting, rule_at, loaded_at}
 use Rattle.server_core.specs.VotingFits.{Suits}
-use Rattle.server_core.proofs.Bridges.{voting_fit}
-use Rattle.server_core.proofs.Called.{wakers}
-use Rattle.server_core.proofs.ValidSettings.{valid}
+use Rattle.server_core.proofs.configured.Bridges.{voting_fit}
+use Rattle.server_core.proofs.values.Called.{wakers}
+use Rattle.server_core.proofs.configured.ValidSettings.{valid}
 use Rattle.node_core.specs.declared.place.Place.{Place}
 use Rattle.node_core.specs.Places.{role_at, setting_at}
 use Rattle.node_core.specs.Standing.{Partakes}

@@ -22,7 +22,7 @@ use Rattle.server_core.specs.Setting.{Setting, setting, rule_at, loaded_at}
 use Rattle.server_core.specs.declared.messages.Mail.{Mail}
 use Rattle.server_core.specs.declared.messages.Msg.{Msg}
 use Rattle.server_core.specs.declared.messages.Msg.TheVariants.{Ask, Prepare, Commit, Abort}
-use Rattle.server_core.proofs.Bridges.{says_voting, by_choice}
+use Rattle.server_core.proofs.configured.Bridges.{says_voting, by_choice}
 use Rattle.coord.specs.declared.coord.Coord.{Coord}
 use Rattle.coord.specs.Standing.{role_of, Coordinates, is_call}
 use Rattle.coord.proofs.Passing.{passes}

@@ -18,7 +18,7 @@ use Rattle.txn_program.proofs.WorkloadLaws.{distinct_loaded, loaded_table}
 use Rattle.row_store.specs.Stores.{Seen, version_at, row_in, loaded, HaveDistinctKeys}
 use Rattle.row_store.specs.declared.versions.Version.{Version}
 use Rattle.control_core.specs.Leaving.{IsLoadedStore}
-use Rattle.server_core.proofs.Workloads.{found}
+use Rattle.server_core.proofs.configured.Workloads.{found}
 use Rattle.node_core.specs.Loading.{rows_at, loaded_in}
 
 -- an item at an index is in the list

@@ -1,6 +1,6 @@
 //! A node of a voting protocol.
 ghost use Rattle.std.specs.Prelude.{◌≡◌};
-ghost use Rattle.server_core.proofs.Served.{mails_fit_any, runs_end_any, mails_land_any, rows_kept_apart_any};
+ghost use Rattle.voting_laws.proofs.NodeLaws.{mails_fit, runs_end, mails_land, rows_kept_apart};
 ghost use Rattle.node_core.specs.Places.{role_at};
 ghost use Rattle.node_core.specs.Standing.{NodeStands};
 
@@ -117,13 +117,13 @@ impl<'w, C: Chosen> Handles for Node<'w, C> {
         self.control.rows()
     }
 
-    ghost fits = { λ c w H flight is config valid run. mails_fit_any c w H flight config valid run };
+    ghost fits = { λ c w H flight is config valid run. mails_fit c w H flight (λ e. C.voting (sym is ∙ e)) config valid run };
 
-    ghost ends = { λ c w H flight is config valid run. runs_end_any c w H flight config valid run };
+    ghost ends = { λ c w H flight is config valid run. runs_end c w H flight (λ e. C.voting (sym is ∙ e)) config valid run };
 
-    ghost lands = { λ c w H flight x is config valid run i. mails_land_any c w H flight x config valid run i };
+    ghost lands = { λ c w H flight x is config valid run i. mails_land c w H flight (λ e. C.voting (sym is ∙ e)) config valid run x i };
 
-    ghost keeps_apart = { λ c w H flight p key is config valid run other. rows_kept_apart_any c w H flight p key config valid run other };
+    ghost keeps_apart = { λ c w H flight p key is config valid run other. rows_kept_apart c w H flight (λ e. C.voting (sym is ∙ e)) config valid run p key other };
 }
 
 impl<'w, C: Chosen> Server<'w> for Node<'w, C> {

@@ -16,7 +16,7 @@ use Rattle.txn_program.specs.Serial.{all_ids}
 use Rattle.txn_program.specs.Transactions.{reading}
 use Rattle.txn_program.proofs.Ids.{distinct_ids}
 use Rattle.server_core.specs.GlobalOrder.{index_of, numbered}
-use Rattle.server_core.specs.Ordered.{has_finished, rows_from, collected}
+use Rattle.server_core.specs.CalvinScheduler.{has_finished, rows_from, collected}
 use Rattle.server_core.specs.Outcome.{decided_as}
 use Rattle.server_core.specs.Runs.{heard}
 use Rattle.server_core.specs.Setting.{Setting, home}

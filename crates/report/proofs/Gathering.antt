@@ -9,8 +9,8 @@ use Rattle.txn_program.specs.Placed.{ArePlaced}
 use Rattle.txn_program.specs.Serial.{program_of}
 use Rattle.txn_program.proofs.Placing.{accesses_placed}
 use Rattle.server_core.specs.declared.messages.Entry.{Entry}
-use Rattle.server_core.proofs.CalvinSettings.{valid}
-use Rattle.server_core.proofs.Orders.{home_below as below}
+use Rattle.server_core.proofs.configured.CalvinSettings.{valid}
+use Rattle.server_core.proofs.lists.Parts.{home_below as below}
 use Rattle.report.specs.Stories.{Tells, setting_of}
 use Rattle.report.specs.declared.outcomes.run.Run.{Run}
 use Rattle.report.specs.declared.outcomes.stories.Story.{Story}
@@ -37,4 +37,4 @@ all_placed r H ts = All-weaker (Tells r H) (λ t. ArePlaced t.accesses) (placed 
 
 -- each home is one of the nodes
 pub home_below : (r : Run) (H : List Entry) (t : Story) → Tells r H t → t.home < r.config.parts
-home_below r H t k = subst (λ p. p < r.config.parts) (sym k.home) (below (setting_of r) (valid r.config r.work.now r.valid r.ranges) t.id k.known)
+home_below r H t k = subst (λ p. p < r.config.parts) (sym k.home) (below (setting_of r) (valid r.config r.work.now r.valid r.ranges).parts t.id)

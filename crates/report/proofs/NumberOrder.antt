@@ -13,7 +13,7 @@ use Rattle.deneva_base.proofs.Membership.{number_decides}
 use Rattle.server_core.specs.IsSerial.{Rises}
 use Rattle.server_core.specs.Outcome.{put_line, sort_lines}
 use Rattle.server_core.specs.declared.outcomes.Decided.{Decided}
-use Rattle.server_core.proofs.SerialOutcomes.{in_sorted}
+use Rattle.server_core.proofs.serial.SortedLines.{in_sorted}
 
 -- no two lines are of one transaction
 abbrev pub HaveDistinctIds : List Decided → Type 0

@@ -15,11 +15,11 @@ use Rattle.server_core.specs.Outcome.{outcome}
 use Rattle.server_core.specs.Says.{IsQuiet}
 use Rattle.server_core.specs.declared.messages.Entry.{Entry}
 use Rattle.server_core.specs.declared.outcomes.Outcome.{Outcome}
-use Rattle.server_core.proofs.Bridges.{choice, votes_or_not}
-use Rattle.server_core.proofs.ByOrder as ordered
-use Rattle.server_core.proofs.Limiteds.{limits}
-use Rattle.server_core.proofs.ValidSettings.{waits, valid}
-use Rattle.server_core.proofs.Voted as voted
+use Rattle.server_core.proofs.configured.Bridges.{choice, votes_or_not}
+use Rattle.calvin_laws.proofs.Configured as ordered
+use Rattle.server_core.proofs.configured.Limiteds.{limits}
+use Rattle.server_core.proofs.configured.ValidSettings.{waits, valid}
+use Rattle.voting_laws.proofs.Voted as voted
 use Rattle.report.specs.Outcomes.{IsOver, IsLeastOpen}
 use Rattle.report.specs.Stories.{Tells}
 use Rattle.report.specs.declared.outcomes.run.Run.{Run}

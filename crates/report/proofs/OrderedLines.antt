@@ -23,11 +23,11 @@ use Rattle.server_core.specs.Setting.{Setting, setting}
 use Rattle.server_core.specs.declared.messages.Entry.{Entry}
 use Rattle.server_core.specs.declared.outcomes.Decided.{Decided}
 use Rattle.server_core.specs.declared.outcomes.Outcome.{Outcome}
-use Rattle.server_core.proofs.CalvinBridges.{outcome_ordered}
-use Rattle.server_core.proofs.CalvinSettings.{valid}
-use Rattle.server_core.proofs.OrderNumbers.{rising}
-use Rattle.server_core.proofs.Orders.{order_in, in_order}
-use Rattle.server_core.proofs.SerialOutcomes.{in_sorted}
+use Rattle.server_core.proofs.configured.CalvinBridges.{outcome_ordered}
+use Rattle.server_core.proofs.configured.CalvinSettings.{valid}
+use Rattle.calvin_laws.proofs.order.OrderNumbers.{rising}
+use Rattle.calvin_laws.proofs.order.Orders.{order_in, in_order}
+use Rattle.server_core.proofs.serial.SortedLines.{in_sorted}
 use Rattle.report.specs.Finishing.{is_finished, finished_line, finished_lines_of}
 use Rattle.report.specs.Outcomes.{IsOver}
 use Rattle.report.proofs.NumberOrder.{HaveDistinctIds, apart_from, sorted_in, sort_rises, unique}

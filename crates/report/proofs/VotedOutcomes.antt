@@ -21,9 +21,10 @@ use Rattle.server_core.specs.declared.messages.Entry.{Entry}
 use Rattle.server_core.specs.declared.outcomes.Decided.{Decided}
 use Rattle.server_core.specs.declared.outcomes.Giveup.{Giveup}
 use Rattle.server_core.specs.declared.outcomes.Outcome.{Outcome}
-use Rattle.server_core.proofs.Bridges.{outcome_voting}
-use Rattle.server_core.proofs.Lines.{flat_in, in_flat, done_turn_is}
-use Rattle.server_core.proofs.SerialOutcomes.{in_sorted}
+use Rattle.server_core.proofs.configured.Bridges.{outcome_voting}
+use Rattle.server_core.proofs.values.Closed.{flat_in, in_flat}
+use Rattle.voting_laws.proofs.serial.Lines.{done_turn_is}
+use Rattle.server_core.proofs.serial.SortedLines.{in_sorted}
 use Rattle.report.specs.ByTransaction.{lines_for, giveups_for}
 use Rattle.report.specs.Outcomes.{IsOver}
 use Rattle.report.proofs.NumberOrder.{HaveDistinctIds, apart_from, sorted_in}

@@ -8,7 +8,7 @@ use Rattle.deneva_base.specs.declared.numbers.TxnId.{TxnId}
 use Rattle.deneva_base.specs.declared.rows.Keyed.{Keyed}
 use Rattle.txn_program.specs.Transactions.{reading}
 use Rattle.server_core.specs.GlobalOrder.{index_of, number}
-use Rattle.server_core.specs.Ordered.{has_finished, rows_from, collected}
+use Rattle.server_core.specs.CalvinScheduler.{has_finished, rows_from, collected}
 use Rattle.server_core.specs.Outcome.{decided_as}
 use Rattle.server_core.specs.Runs.{heard}
 use Rattle.server_core.specs.Setting.{Setting, home, homes, parts_for}

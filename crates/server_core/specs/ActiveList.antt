@@ -4,7 +4,7 @@ use Rattle.std.specs.List.{list_all, flat_map}
 use Rattle.deneva_base.specs.declared.numbers.TxnId.{TxnId}
 use Rattle.server_core.specs.declared.messages.Msg.{Msg}
 use Rattle.server_core.specs.Setting.{Setting}
-use Rattle.server_core.specs.Ordered.{takes_part, clash, has_batch, as_far, taken, is_finished, is_ready}
+use Rattle.server_core.specs.CalvinScheduler.{takes_part, clash, has_batch, as_far, taken, is_finished, is_ready}
 use Rattle.server_core.specs.GlobalOrder.{slots, batch, before}
 use Rattle.deneva_base.specs.Keys.{id_eq}
 

@@ -5,7 +5,7 @@ use Rattle.deneva_base.specs.declared.numbers.TxnId.{TxnId}
 use Rattle.txn_program.specs.Transactions.{numbers_below}
 use Rattle.server_core.specs.Coordinator.{to_all}
 use Rattle.server_core.specs.GlobalOrder.{epochs, batch, order, number}
-use Rattle.server_core.specs.Ordered.{is_finished, is_ready, rows_at}
+use Rattle.server_core.specs.CalvinScheduler.{is_finished, is_ready, rows_at}
 use Rattle.server_core.specs.Setting.{Setting, home, parts_for}
 use Rattle.server_core.specs.declared.messages.Mail.{Mail}
 use Rattle.server_core.specs.declared.messages.Msg.{Msg}

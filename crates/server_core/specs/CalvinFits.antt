@@ -7,7 +7,7 @@ use Rattle.deneva_base.specs.declared.rows.Keyed.{Keyed}
 use Rattle.server_core.specs.Calvin.{says}
 use Rattle.server_core.specs.Counts.{all_said}
 use Rattle.server_core.specs.GlobalOrder.{epochs, batch, number}
-use Rattle.server_core.specs.Ordered.{reading_at, has_batch, has_rows, has_finished, ticks}
+use Rattle.server_core.specs.CalvinScheduler.{reading_at, has_batch, has_rows, has_finished, ticks}
 use Rattle.server_core.specs.Setting.{Setting, home, parts_for}
 use Rattle.server_core.specs.declared.messages.Msg.{Msg}
 use Rattle.server_core.specs.declared.messages.Msg.TheVariants.{Tick, Batch, Rows, Finished}

@@ -9,7 +9,7 @@ use Rattle.deneva_base.specs.declared.rows.Keyed.{Keyed}
 use Rattle.txn_program.specs.Transactions.{reading}
 use Rattle.server_core.specs.Effects.{leaves}
 use Rattle.server_core.specs.GlobalOrder.{order, number, before}
-use Rattle.server_core.specs.Ordered.{reading_at}
+use Rattle.server_core.specs.CalvinScheduler.{reading_at}
 use Rattle.server_core.specs.Outcome.{decided_as}
 use Rattle.server_core.specs.Setting.{Setting}
 use Rattle.server_core.specs.declared.outcomes.Decided.{Decided}

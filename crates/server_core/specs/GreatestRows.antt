@@ -8,7 +8,7 @@ use Rattle.deneva_base.specs.Keys.{NumberLt}
 use Rattle.server_core.specs.declared.messages.Msg.{Msg}
 use Rattle.server_core.specs.Setting.{Setting}
 use Rattle.server_core.specs.GlobalOrder.{number}
-use Rattle.server_core.specs.Ordered.{is_finished, applied}
+use Rattle.server_core.specs.CalvinScheduler.{is_finished, applied}
 
 abbrev pub Changed : Setting → ℕ → List Msg → TxnId → Key → Row → Type 0
 Changed s p ms x k row = IsIn (record { key = k; row = row }) (applied s p ms x)

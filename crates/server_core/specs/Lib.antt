@@ -6,7 +6,7 @@ pub mod Coordinator
 pub mod Participant
 pub mod Voting
 pub mod GlobalOrder
-pub mod Ordered
+pub mod CalvinScheduler
 pub mod Calvin
 pub mod Runs
 pub mod Says

@@ -6,7 +6,7 @@ use Rattle.protocol_rules.specs.Protocols.{Chosen, chosen}
 use Rattle.deneva_base.specs.Rows.{Rows}
 use Rattle.deneva_base.specs.declared.config.Config.{Config}
 use Rattle.txn_program.specs.declared.programs.Workload.{Workload}
-use Rattle.server_core.specs.Ordered.{now}
+use Rattle.server_core.specs.CalvinScheduler.{now}
 use Rattle.server_core.specs.Participant.{calls}
 use Rattle.server_core.specs.Setting.{Setting, setting, loaded_at}
 use Rattle.server_core.specs.declared.messages.Msg.{Msg}

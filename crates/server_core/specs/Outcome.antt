@@ -18,7 +18,7 @@ use Rattle.server_core.specs.Coordinator.{reads_of}
 use Rattle.server_core.specs.Effects.{leaves}
 use Rattle.server_core.specs.Ends.{attempt, at_home, all_undone, done_turn}
 use Rattle.server_core.specs.GlobalOrder.{order, number}
-use Rattle.server_core.specs.Ordered.{has_finished, collected}
+use Rattle.server_core.specs.CalvinScheduler.{has_finished, collected}
 use Rattle.server_core.specs.Replies.{Reply, grants_for}
 use Rattle.server_core.specs.Runs.{heard}
 use Rattle.server_core.specs.Setting.{Setting, setting, home, parts_for}

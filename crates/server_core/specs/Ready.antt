@@ -4,7 +4,7 @@ use Rattle.deneva_base.specs.Keys.{NumberLt}
 use Rattle.deneva_base.specs.Lists.{IsIn}
 use Rattle.deneva_base.specs.declared.numbers.TxnId.{TxnId}
 use Rattle.server_core.specs.GlobalOrder.{number}
-use Rattle.server_core.specs.Ordered.{takes_part, clash, taken, is_finished}
+use Rattle.server_core.specs.CalvinScheduler.{takes_part, clash, taken, is_finished}
 use Rattle.server_core.specs.Setting.{Setting}
 use Rattle.server_core.specs.declared.messages.Msg.{Msg}
 

@@ -21,7 +21,7 @@ pub fn settings_are_valid()
 {}
 
 /// They meet what the laws over runs of Calvin ask of a setting as well.
-pub fn ordered_settings_are_valid()
+pub fn calvin_settings_are_valid()
     ensures valid { (c : Config) (w : Workload) → IsConfig c → IsValid w → calvin.Valid (setting c w) }
     ensures forms { (c : Config) (w : Workload) → IsValid w → calvin.Forms (setting c w) }
     ensures limits { (c : Config) (w : Workload) → IsConfig c → IsValid w → calvin.Limits (setting c w) }

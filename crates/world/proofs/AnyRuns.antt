@@ -11,13 +11,13 @@ use Rattle.server_core.specs.Picks.{Progress, deliver}
 use Rattle.server_core.specs.Runs.{Reaches}
 use Rattle.server_core.specs.Says.{IsRun, says, says_under, opening_under}
 use Rattle.server_core.specs.Setting.{setting}
-use Rattle.server_core.proofs.Bridges.{by_choice}
-use Rattle.server_core.proofs.CalvinBridges.{by_order}
-use Rattle.server_core.proofs.CalvinSettings as ordered
-use Rattle.server_core.proofs.Deliveries as voted
-use Rattle.server_core.proofs.Limiteds.{limits}
-use Rattle.server_core.proofs.OrderedDeliveries as calvin
-use Rattle.server_core.proofs.ValidSettings.{valid}
+use Rattle.server_core.proofs.configured.Bridges.{by_choice}
+use Rattle.server_core.proofs.configured.CalvinBridges.{by_order}
+use Rattle.server_core.proofs.configured.CalvinSettings as ordered
+use Rattle.voting_laws.proofs.numbers.Deliveries as voted
+use Rattle.server_core.proofs.configured.Limiteds.{limits}
+use Rattle.calvin_laws.proofs.counts.Deliveries as calvin
+use Rattle.server_core.proofs.configured.ValidSettings.{valid}
 
 votes_or_not : (p : Protocol) → IsVoting p ⊎ (p ≡ Calvin)
 votes_or_not NoWait = inl (λ e. cc (e))

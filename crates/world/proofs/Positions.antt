@@ -7,7 +7,7 @@ use Rattle.rand_pcg.proofs.LcgLemmas.{advance_zero}
 use Rattle.server_core.specs.Picks.{position, listed}
 use Rattle.server_core.specs.declared.schedules.Schedule.{Schedule}
 use Rattle.server_core.specs.declared.schedules.Schedule.TheVariants as schedules
-use Rattle.server_core.proofs.Prepares.{slice_none}
+use Rattle.server_core.proofs.counts.Prepares.{slice_none}
 use Rattle.world.specs.Turns.{AtTurn}
 use Rattle.world.specs.declared.picker.Picker.TheVariants as pickers
 

@@ -9,7 +9,7 @@ use Rattle.server_core.specs.Runs.{Saying, Reaches, entry_of, heard}
 use Rattle.server_core.specs.declared.messages.Entry.{Entry}
 use Rattle.server_core.specs.declared.messages.Mail.{Mail}
 use Rattle.server_core.specs.declared.messages.Msg.{Msg}
-use Rattle.server_core.proofs.Flights.{one_flight}
+use Rattle.server_core.proofs.flight.Flights.{one_flight}
 use Rattle.world.specs.Replays.{Gives}
 use Rattle.world.specs.Worlds.{Seen, HasNodes}
 use Rattle.server_core.specs.Roles.{Role}

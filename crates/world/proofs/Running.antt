@@ -6,7 +6,7 @@ use Rattle.server_core.specs.Runs.{Saying}
 use Rattle.server_core.specs.Says.{says}
 use Rattle.server_core.specs.declared.messages.Mail.{Mail}
 use Rattle.server_core.specs.declared.schedules.Schedule.{Schedule}
-use Rattle.server_core.proofs.Prepares.{slice_none}
+use Rattle.server_core.proofs.counts.Prepares.{slice_none}
 use Rattle.world.specs.Turns.{AtTurn}
 use Rattle.world.specs.Worlds.{Seen}
 use Rattle.world.specs.declared.picker.Picker.{Picker}

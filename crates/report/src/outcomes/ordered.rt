@@ -6,7 +6,7 @@ ghost use Rattle.deneva_base.specs.declared.config.Protocol.TheVariants.{Calvin}
 ghost use Rattle.txn_program.specs.Placed.{ArePlaced};
 ghost use Rattle.txn_program.specs.Serial.{all_ids};
 ghost use Rattle.server_core.specs.GlobalOrder.{numbered};
-ghost use Rattle.server_core.specs.Ordered as ordered;
+ghost use Rattle.server_core.specs.CalvinScheduler as ordered;
 ghost use Rattle.server_core.specs.Outcome.{outcome};
 ghost use Rattle.server_core.specs.declared.messages.Entry as messages;
 ghost use Rattle.report.specs.Finishing.{gathered, finished_line, finished_lines_of, IsPlace};

@@ -11,7 +11,7 @@ use Rattle.server_core.specs.Runs.{heard}
 use Rattle.server_core.specs.declared.messages.Entry.{Entry}
 use Rattle.server_core.specs.declared.outcomes.Outcome.{Outcome}
 use Rattle.report.specs.Outcomes.{with_rows}
-use Rattle.server_core.proofs.ByOrder.{outcome_is}
+use Rattle.calvin_laws.proofs.Configured.{outcome_is}
 use Rattle.replay.proofs.Outcomes.{outcome_rows, ordered_outcome}
 use Rattle.replay.proofs.runs.run_in.Goals as goal
 

@@ -1,7 +1,7 @@
 use Rattle.std.proofs.Common.{◌≡◌, ◌≤◌, ◌∙◌, sym, length, arith}
 use Rattle.std.proofs.lemmas.Bool.Decides.{nat_tests}
-use Rattle.server_core.proofs.CalvinBridges.{opening_ordered}
-use Rattle.server_core.proofs.OpeningMails.{opening_none, opening_some}
+use Rattle.server_core.proofs.configured.CalvinBridges.{opening_ordered}
+use Rattle.server_core.proofs.flight.OpeningMails.{opening_none, opening_some}
 use Rattle.server_core.proofs.openings.opening.Goals as goal
 
 pub returns-then-is_empty : goal.returns-then-is_empty

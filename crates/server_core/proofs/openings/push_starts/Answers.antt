@@ -1,6 +1,6 @@
 use Rattle.std.proofs.Common.{◌≡◌, ◌<◌, ◌+◌, ◌++◌, ◌∷◌, [], length, sym, ap, ◌∙◌, inl, inr, arith}
 use Rattle.server_core.specs.Setting.{setting, home}
-use Rattle.server_core.proofs.OpeningMails.{valid_at, home_at, passed, begun}
+use Rattle.server_core.proofs.flight.OpeningMails.{valid_at, home_at, passed, begun}
 use Rattle.server_core.proofs.openings.push_starts.Goals as goal
 use Rattle.server_core.proofs.openings.push_starts.Goals.{then-lives_at-node+then-room-gt0+in_ok-push, else-lives_at-node, else-lives_at-node-via-then-lives_at-node+else-room-gt0, else-lives_at-node-via-else-lives_at-node}
 

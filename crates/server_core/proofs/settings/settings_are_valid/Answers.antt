@@ -1,6 +1,6 @@
 -- The laws are lemmas.
-use Rattle.server_core.proofs.Limiteds.{limits}
-use Rattle.server_core.proofs.ValidSettings.{valid, naming, waits}
+use Rattle.server_core.proofs.configured.Limiteds.{limits}
+use Rattle.server_core.proofs.configured.ValidSettings.{valid, naming, waits}
 use Rattle.server_core.proofs.settings.settings_are_valid.Goals as goal
 
 pub returns : goal.returns

@@ -10,9 +10,9 @@ use Rattle.server_core.specs.Proper.{Valid}
 use Rattle.server_core.specs.Says.{IsQuiet}
 use Rattle.server_core.specs.Setting.{setting}
 use Rattle.server_core.specs.declared.schedules.Schedule.TheVariants.{Fifo}
-use Rattle.server_core.proofs.Limiteds.{limits}
-use Rattle.server_core.proofs.ValidSettings.{naming, waits, valid}
-use Rattle.server_core.proofs.Voted.{picked_quiet, all_named, atomic, serial, decided}
+use Rattle.server_core.proofs.configured.Limiteds.{limits}
+use Rattle.server_core.proofs.configured.ValidSettings.{naming, waits, valid}
+use Rattle.voting_laws.proofs.Voted.{picked_quiet, all_named, atomic, serial, decided}
 use Rattle.worked_examples.specs.Workloads.{two_tries, three_writers_apart}
 use Rattle.worked_examples.proofs.premises.a_quiet_run_meets_the_laws.Goals as goal
 

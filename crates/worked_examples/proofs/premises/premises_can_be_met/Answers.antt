@@ -8,10 +8,10 @@ use Rattle.server_core.specs.Limits.{Limits}
 use Rattle.server_core.specs.Picks.{position, begun}
 use Rattle.server_core.specs.Proper.{Valid}
 use Rattle.server_core.specs.Setting.{setting}
-use Rattle.server_core.proofs.Deliveries.{schedule_run}
-use Rattle.server_core.proofs.Limiteds.{limits}
-use Rattle.server_core.proofs.ValidSettings.{valid}
-use Rattle.server_core.proofs.Voted.{picked_quiet}
+use Rattle.voting_laws.proofs.numbers.Deliveries.{schedule_run}
+use Rattle.server_core.proofs.configured.Limiteds.{limits}
+use Rattle.server_core.proofs.configured.ValidSettings.{valid}
+use Rattle.voting_laws.proofs.Voted.{picked_quiet}
 use Rattle.worked_examples.specs.Workloads.{over, three_writers_apart}
 use Rattle.worked_examples.proofs.premises.premises_can_be_met.Goals as goal
 

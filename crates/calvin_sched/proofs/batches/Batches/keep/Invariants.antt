@@ -1,5 +1,5 @@
 use Rattle.std.proofs.Common.{◌≡◌, ◌+◌, ◌-◌, length, drop, is_some}
-use Rattle.server_core.specs.Ordered.{as_far}
+use Rattle.server_core.specs.CalvinScheduler.{as_far}
 use Rattle.calvin_sched.specs.Batches.{came}
 use Rattle.calvin_sched.proofs.batches.Batches.keep.Given as goal
 

@@ -2,7 +2,7 @@ use Rattle.std.proofs.Common.{◌≡◌, ◌++◌, ◌∙◌, ◌+◌, ◌<◌, 
 use Rattle.std.specs.List.{flat_map}
 use Rattle.std.proofs.lemmas.List.{get_or-set_same, get_or-set_other, get_or_read, length-set}
 use Rattle.deneva_base.specs.declared.numbers.TxnId.{TxnId}
-use Rattle.server_core.specs.Ordered.{as_far}
+use Rattle.server_core.specs.CalvinScheduler.{as_far}
 use Rattle.calvin_sched.specs.Batches.{ids_in}
 use Rattle.calvin_sched.proofs.BatchSteps.{taken_step}
 use Rattle.calvin_sched.proofs.batches.Batches.taken_with.Goals.{then-next-place, else-next-place+in-Some}

@@ -1,6 +1,6 @@
 use Rattle.std.proofs.Common.{◌≡◌, ◌++◌, ◌-◌, length, drop, is_some, slice_set, Some}
 use Rattle.std.specs.List.{flat_map}
-use Rattle.server_core.specs.Ordered.{as_far}
+use Rattle.server_core.specs.CalvinScheduler.{as_far}
 use Rattle.calvin_sched.specs.Batches.{came, ids_in, newly}
 use Rattle.calvin_sched.proofs.batches.Batches.taken_with.Given as goal
 

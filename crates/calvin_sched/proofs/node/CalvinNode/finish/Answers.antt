@@ -7,7 +7,7 @@ use Rattle.row_store.specs.Stores.{row_in, version_at}
 use Rattle.server_core.specs.Calvin.{finished_mail}
 use Rattle.server_core.specs.CalvinProper.{Valid}
 use Rattle.server_core.specs.GlobalOrder.{number}
-use Rattle.server_core.specs.Ordered.{is_finished, applied}
+use Rattle.server_core.specs.CalvinScheduler.{is_finished, applied}
 use Rattle.server_core.specs.Setting.{Setting}
 use Rattle.server_core.specs.declared.messages.Msg.TheVariants.{Rows}
 use Rattle.calvin_seq.specs.Places.{setting_of, accesses_at}

@@ -7,7 +7,7 @@ use Rattle.server_core.specs.ActiveList.{newly_taken}
 use Rattle.server_core.specs.CalvinProper.{Valid}
 use Rattle.server_core.specs.Setting.{Setting}
 use Rattle.server_core.specs.declared.messages.Msg.TheVariants.{Batch}
-use Rattle.server_core.proofs.CalvinSettings as calvin
+use Rattle.server_core.proofs.configured.CalvinSettings as calvin
 use Rattle.calvin_seq.specs.Places.{setting_of}
 use Rattle.calvin_sched.specs.Asked.{asked}
 use Rattle.calvin_sched.specs.Batches.{came}

@@ -2,7 +2,7 @@ use Rattle.std.proofs.Common.{◌≡◌, ◌++◌, ◌∷◌, [], List, false, a
 use Rattle.std.proofs.lemmas.Result.{on_ok_weaker}
 use Rattle.deneva_base.specs.declared.rows.Keyed.{Keyed}
 use Rattle.server_core.specs.CalvinProper.{Valid}
-use Rattle.server_core.specs.Ordered.{is_finished}
+use Rattle.server_core.specs.CalvinScheduler.{is_finished}
 use Rattle.server_core.specs.Setting.{Setting}
 use Rattle.server_core.specs.declared.messages.Msg.TheVariants.{Rows}
 use Rattle.calvin_seq.specs.Places.{setting_of}

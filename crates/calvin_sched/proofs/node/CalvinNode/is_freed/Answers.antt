@@ -2,7 +2,7 @@ use Rattle.std.proofs.Common.{◌≡◌, ◌∙◌, ◌||◌, true, sym, ap, Som
 use Rattle.std.specs.List.{list_all}
 use Rattle.deneva_base.specs.Modes.{writes}
 use Rattle.deneva_base.specs.declared.keys.Access.{Access}
-use Rattle.server_core.proofs.OrderedLists.{or_left, or_right}
+use Rattle.server_core.proofs.lists.ListTests.{or_left, or_right}
 use Rattle.calvin_sched.specs.Queues.{is_free}
 use Rattle.calvin_sched.specs.Tables.{queue_at}
 use Rattle.calvin_sched.proofs.node.CalvinNode.is_freed.Goals as goal

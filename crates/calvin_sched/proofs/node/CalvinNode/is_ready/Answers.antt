@@ -2,7 +2,7 @@ use Rattle.std.proofs.Common.{◌≡◌, true, false, not, ap, ◌∙◌, None}
 use Rattle.std.specs.List.{list_all}
 use Rattle.deneva_base.specs.Modes.{writes}
 use Rattle.deneva_base.specs.declared.keys.Access.{Access}
-use Rattle.server_core.specs.Ordered.{takes_part}
+use Rattle.server_core.specs.CalvinScheduler.{takes_part}
 use Rattle.calvin_seq.specs.Places.{setting_of}
 use Rattle.calvin_sched.specs.Queues.{is_free}
 use Rattle.calvin_sched.specs.Tables.{queue_at}

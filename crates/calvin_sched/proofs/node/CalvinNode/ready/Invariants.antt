@@ -1,5 +1,5 @@
 use Rattle.std.proofs.Common.{◌≡◌, take, filter, ◌&&◌, None}
-use Rattle.server_core.specs.Ordered.{takes_part}
+use Rattle.server_core.specs.CalvinScheduler.{takes_part}
 use Rattle.calvin_seq.specs.Places.{setting_of}
 use Rattle.calvin_sched.specs.Asked.{all_free}
 use Rattle.calvin_sched.specs.Tables.{queue_at}

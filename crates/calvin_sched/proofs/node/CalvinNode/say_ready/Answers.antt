@@ -2,7 +2,7 @@ use Rattle.std.proofs.Common.{subst, ◌∙◌, ◌&&◌, None}
 use Rattle.deneva_base.specs.Lists.{IsIn}
 use Rattle.deneva_base.specs.declared.numbers.TxnId.{TxnId}
 use Rattle.deneva_base.proofs.Membership.{filter_in}
-use Rattle.server_core.specs.Ordered.{takes_part}
+use Rattle.server_core.specs.CalvinScheduler.{takes_part}
 use Rattle.calvin_seq.specs.Places.{setting_of}
 use Rattle.calvin_sched.specs.Asked.{all_free}
 use Rattle.calvin_sched.specs.Tables.{queue_at}

@@ -8,7 +8,7 @@ use Rattle.deneva_base.specs.declared.keys.Key.{Key}
 use Rattle.row_store.specs.Stores.{row_in}
 use Rattle.row_store.specs.declared.versions.Version.{Version}
 use Rattle.server_core.specs.NodeRows.{rows_under}
-use Rattle.server_core.specs.Ordered.{now}
+use Rattle.server_core.specs.CalvinScheduler.{now}
 use Rattle.server_core.specs.Roles.{rows_of_role}
 use Rattle.server_core.specs.declared.messages.Msg.{Msg}
 use Rattle.calvin_seq.specs.Places.{role_of, setting_of}

@@ -6,7 +6,7 @@ use Rattle.server_core.specs.CalvinProper.{Valid}
 use Rattle.server_core.specs.Roles.{Role}
 use Rattle.server_core.specs.GlobalOrder.{epochs, number}
 use Rattle.server_core.specs.Setting.{Setting, setting, loaded_at, parts_for}
-use Rattle.server_core.proofs.CalvinSettings as calvin
+use Rattle.server_core.proofs.configured.CalvinSettings as calvin
 use Rattle.calvin_seq.specs.Places.{role_of, setting_of}
 use Rattle.calvin_sched.proofs.Nodes.{batches_first, locks_first, arrivals_first, versions_first}
 use Rattle.calvin_sched.proofs.node.CalvinNodeServer.begin.Goals as goal

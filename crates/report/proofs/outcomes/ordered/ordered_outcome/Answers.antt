@@ -10,7 +10,7 @@ use Rattle.server_core.specs.Outcome.{sort_lines}
 use Rattle.server_core.specs.declared.outcomes.Decided.{Decided}
 use Rattle.server_core.specs.declared.outcomes.Outcome.{Outcome}
 use Rattle.server_core.specs.declared.outcomes.RunKind.TheVariants.{Under}
-use Rattle.server_core.proofs.CalvinBridges.{outcome_ordered}
+use Rattle.server_core.proofs.configured.CalvinBridges.{outcome_ordered}
 use Rattle.report.specs.Outcomes.{with_rows}
 use Rattle.report.specs.Stories.{Tells, setting_of}
 use Rattle.report.specs.declared.outcomes.stories.Story.{Story}

@@ -7,7 +7,7 @@ use Rattle.server_core.specs.Outcome.{sort_lines}
 use Rattle.server_core.specs.declared.outcomes.Decided.{Decided}
 use Rattle.server_core.specs.declared.outcomes.Outcome.{Outcome}
 use Rattle.server_core.specs.declared.outcomes.RunKind.TheVariants.{Under}
-use Rattle.server_core.proofs.Bridges.{outcome_voting}
+use Rattle.server_core.proofs.configured.Bridges.{outcome_voting}
 use Rattle.report.specs.ByTransaction.{lines_for, giveups_for}
 use Rattle.report.specs.Outcomes.{with_rows}
 use Rattle.report.specs.Stories.{Tells, setting_of}

@@ -1,7 +1,0 @@
--- The laws are lemmas.
-use Rattle.server_core.proofs.OrderedFits.{nodes_fit}
-use Rattle.server_core.proofs.OrderedLimits.{each_fits}
-use Rattle.server_core.proofs.ordered.ordered_mails_fit.Goals as goal
-
-pub returns : goal.returns
-returns c = record { law = λ s H flight v f l run. each_fits s l v f H flight run; nodes = λ s H flight p v f run. nodes_fit s v f H flight run p }

@@ -1,9 +1,0 @@
--- The laws are lemmas.
-use Rattle.server_core.proofs.OrderedSteps.{batch_news, rows_news}
-use Rattle.server_core.proofs.scheduling.news_are_local.Goals as goal
-
-pub returns : goal.returns
-returns c = record {
-  batch = λ s p e q ids ms z h n. batch_news s p e q ids ms z h n;
-  rows = λ s p q x rows ms z h n. rows_news s p x q rows ms z h n;
-}

@@ -1,0 +1,9 @@
+-- Attempts one after another, open transactions and the limit: a quiet run leaves nothing undecided.
+pub mod Begun
+pub mod Ledgers
+pub mod Opens
+pub mod Rooms
+pub mod Quits
+pub mod Limited
+pub mod LastTurns
+pub mod Ended
