@@ -15,7 +15,7 @@ import sys
 
 top, program, *wanted = sys.argv[1:]
 examples = pathlib.Path(top, "examples")
-SECONDS = 60
+SECONDS = 120
 
 
 def own_or_shared(folder, run, name):
