@@ -6,7 +6,7 @@ set -eu
 top=$(cd "$(dirname "$0")/.." && pwd)
 work=$(mktemp -d)
 trap 'rm -rf "$work"' EXIT
-"$top/deneva" serial <"$top/examples/two-updates.csv" >/dev/null
+"$top/deneva" serial <"$top/examples/two-updates/input.csv" >/dev/null
 
 # measure NAME FILE WORDS..
 measure() {

@@ -6,7 +6,7 @@ set -eu
 top=$(cd "$(dirname "$0")/.." && pwd)
 work=$(mktemp -d)
 trap 'rm -rf "$work"' EXIT
-"$top/deneva" serial <"$top/examples/two-updates.csv" >/dev/null
+"$top/deneva" serial <"$top/examples/two-updates/input.csv" >/dev/null
 python3 "$top/bench/ycsb.py" 5000 10 30 500 16 50 >"$work/input.csv"
 python3 - "$top/crates/deneva/out/deneva" "$work/input.csv" <<'PYTHON'
 import collections

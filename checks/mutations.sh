@@ -2,7 +2,7 @@
 # Runs the program on a thousand mutated workload files from a fixed seed. Each run has to end with status 0 and a report,
 # or with status 3 and one line that names a fault.
 top=$(cd "$(dirname "$0")/.." && pwd)
-"$top/deneva" serial <"$top/examples/two-updates.csv" >/dev/null || exit 1
+"$top/deneva" serial <"$top/examples/two-updates/input.csv" >/dev/null || exit 1
 exec python3 - "$top" <<'PYTHON'
 import collections
 import random

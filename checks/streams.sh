@@ -7,7 +7,7 @@ program=$top/crates/deneva/out/deneva
 work=$(mktemp -d)
 trap 'rm -rf "$work"' EXIT
 failed=0
-"$top/deneva" serial <"$top/examples/two-updates.csv" >/dev/null || exit 1
+"$top/deneva" serial <"$top/examples/two-updates/input.csv" >/dev/null || exit 1
 
 expect() {
     if [ "$2" = "$3" ]; then
@@ -18,7 +18,7 @@ expect() {
     fi
 }
 
-"$program" serial <"$top/examples/two-updates.csv" >/dev/full
+"$program" serial <"$top/examples/two-updates/input.csv" >/dev/full
 expect "a full device" $? 5
 
 # More than a pipe holds, to a reader that goes at once.
@@ -30,7 +30,7 @@ expect "a pipe whose reader has gone" "$(cat "$work/status")" 5
 expect "a directory as standard input" $? 4
 [ "$(cat "$work/out")" = "fault,read" ] || { echo "FAILED  the text of a read fault"; failed=1; }
 
-"$program" "$(printf 'serial\377')" <"$top/examples/two-updates.csv" >"$work/out"
+"$program" "$(printf 'serial\377')" <"$top/examples/two-updates/input.csv" >"$work/out"
 expect "a word that is no UTF-8 text" $? 2
 [ "$(cat "$work/out")" = "fault,words" ] || { echo "FAILED  the text of refused words"; failed=1; }
 exit $failed

@@ -15,6 +15,4 @@ pub use calls::{Ended, deneva};
 pub use replay::Ran;
 
 #[cfg(test)]
-mod replay_tests;
-#[cfg(test)]
 mod tests;

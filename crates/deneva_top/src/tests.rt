@@ -1,11 +1,12 @@
-//! Whole calls over memory: words and bytes in, status and bytes out.
+//! Whole calls over memory: words and bytes in, status and bytes out. One call for each kind of answer; the worked runs under
+//! `examples` have the others.
 mod words;
 
-use crate::deneva;
 use crate::serial_model::run_serial;
 use crate::workload_text::{
     FaultKind, InputFault, ReadError, parse_workload, read_bytes, read_workload,
 };
+use crate::{Ended, deneva};
 use deneva_base::{ByteList, CountList, IdList, NoMemory};
 use deneva_io::{MemSink, MemSource, SureSink, SureSource};
 use std::alloc::Global;
@@ -14,9 +15,19 @@ use txn_program::valid;
 
 const TWO_UPDATES: &str = "deneva,1,ycsb,1\nrow,1,a\ntxn,u,1,0,x\ntxn,u,1,0,y\nend\n";
 
+const ONE_UPDATE: &str = "deneva,1,ycsb,1\nrow,1,a\ntxn,u,1,0,z\nend\n";
+
 /// The report of the two updates.
 const TWO_REPORTS: &str =
     "deneva-report,1,serial,1\ncommit,1,1,0,0\nread,0.1.0.0,a\ncommit,2,2,0,0\nread,0.1.0.0,x\nrow,0.1.0.0,y\nend\n";
+
+/// The words of a run under NO_WAIT.
+const NO_WAIT: [&str; 3] = ["replay", "--protocol", "nowait"];
+
+/// The report of that run of the two updates: places 0 and 1 are the starts, place 2 is the first ask and place 3 the
+/// second, which is refused.
+const RUN_REPORT: &str =
+    "deneva-report,1,nowait,1\ncommit,1,1,0,0\nread,0.1.0.0,a\ncommit,2,2,0,0\nread,0.1.0.0,x\nabort,2,1,3,0,held,0.1.0.0,1.1\nrow,0.1.0.0,y\nend\n";
 
 const ROOM: usize = 100_000;
 
@@ -38,159 +49,36 @@ fn run(alloc: Global, words: &[&str], input: &str) -> Result<(u8, SureSink), NoM
     Ok((ended.status, sink))
 }
 
-/// The first of the inputs, each with its text, that under `serial` ends with another status or text.
-fn first_other(
-    alloc: Global,
-    status: u8,
-    cases: &[(&str, &str)],
-) -> Result<Option<usize>, NoMemory> {
-    for index in 0..cases.len() {
-        let (input, text) = &cases[index];
-        let (ended, sink) = run(alloc, &["serial"], input)?;
-        if ended != status || sink.bytes() != text.as_bytes() {
-            return Ok(Some(index));
-        }
-    }
-    Ok(None)
+#[test]
+fn a_serial_execution_is_reported(rt: HostRuntime) -> Result<(), Fail> {
+    let (status, sink) = run(rt.alloc(), &["serial"], TWO_UPDATES)?;
+    assert_eq!(rt; status, 0);
+    assert_eq!(rt; sink.bytes(), TWO_REPORTS.as_bytes());
+    Ok(())
 }
 
 #[test]
-fn serial_runs_in_file_order(rt: HostRuntime) -> Result<(), Fail> {
-    let cases = [
-        (TWO_UPDATES, TWO_REPORTS),
-        // A blind write reads nothing, a row that is only loaded stays, and rows stand in key order.
-        (
-            "deneva,2,ycsb,2\r\nrow,5,c,d\r\n\r\nrow,2,a,b\rtxn,p,2,x,y,r,5\ntxn,u,2,1,z\nend",
-            "deneva-report,1,serial,1\ncommit,1,1,0,0\nread,0.5.0.0,c,d\ncommit,2,2,0,0\nread,0.2.0.0,x,y\nrow,0.2.0.0,x,z\nrow,0.5.0.0,c,d\nend\n",
-        ),
-        // A byte order mark at the very start is passed over.
-        (
-            "\u{feff}deneva,1,ycsb,1\nrow,5,a\nrow,2,\nend\n",
-            "deneva-report,1,serial,1\nrow,0.2.0.0,\nrow,0.5.0.0,a\nend\n",
-        ),
-    ];
-    assert_eq!(rt; first_other(rt.alloc(), 0, &cases)?, None);
+fn a_run_is_reported(rt: HostRuntime) -> Result<(), Fail> {
+    let (status, sink) = run(rt.alloc(), &NO_WAIT, TWO_UPDATES)?;
+    assert_eq!(rt; status, 0);
+    assert_eq!(rt; sink.bytes(), RUN_REPORT.as_bytes());
     Ok(())
 }
 
 #[test]
 fn words_that_give_no_command_are_refused(rt: HostRuntime) -> Result<(), Fail> {
-    for word in &["", "Serial", "replay"] {
-        let (status, sink) = run(rt.alloc(), &[*word], TWO_UPDATES)?;
-        assert_eq!(rt; status, 2);
-        assert_eq!(rt; sink.bytes(), b"fault,words\n".as_slice());
-    }
-    let (status, _) = run(rt.alloc(), &["serial", "serial"], TWO_UPDATES)?;
+    let (status, sink) = run(rt.alloc(), &["serial", "serial"], TWO_UPDATES)?;
     assert_eq!(rt; status, 2);
+    assert_eq!(rt; sink.bytes(), b"fault,words\n".as_slice());
     Ok(())
 }
 
 #[test]
 fn the_first_fault_is_named(rt: HostRuntime) -> Result<(), Fail> {
-    let cases = [
-        ("", "fault,input,1,1,magic\n"),
-        ("deneva", "fault,input,1,2,magic\n"),
-        ("deneva,1", "fault,input,1,0,arity\n"),
-        ("deneva,1,foo", "fault,input,1,3,kind\n"),
-        ("deneva,1,tpcc", "fault,input,1,3,kind\n"),
-        ("deneva,2,tpcc", "fault,input,1,3,kind\n"),
-        ("deneva,3,ycsb,1", "fault,input,1,2,magic\n"),
-        ("deneva,1,ycsb,1,1", "fault,input,1,0,arity\n"),
-        ("deneva,1,ycsb,x", "fault,input,1,4,notanumber\n"),
-        ("deneva,1,ycsb,11", "fault,input,1,4,outofrange\n"),
-        ("deneva,1,ycsb,1\nrow,1,a\n", "fault,input,3,0,noend\n"),
-        (
-            "deneva,1,ycsb,1\nrow,1,a\ntxn,r,1,u,1,0,b\nend\n",
-            "fault,input,3,5,repeated\n",
-        ),
-        (
-            "deneva,1,ycsb,1\nrow,+1,a\nend\n",
-            "fault,input,2,2,notanumber\n",
-        ),
-        (
-            "deneva,1,ycsb,1\nrow,01,a\nend\n",
-            "fault,input,2,2,notanumber\n",
-        ),
-        (
-            "deneva,1,ycsb,1\nrow,4294967296,a\nend\n",
-            "fault,input,2,2,outofrange\n",
-        ),
-        (
-            "deneva,1,ycsb,1\nrow,1,a\ntxn,r,2\nend\n",
-            "fault,input,3,3,unknownkey\n",
-        ),
-        (
-            "deneva,1,ycsb,1\nrow,1,a\nend\nx\n",
-            "fault,input,4,0,trailing\n",
-        ),
-    ];
-    assert_eq!(rt; first_other(rt.alloc(), 3, &cases)?, None);
-    Ok(())
-}
-
-#[test]
-fn steps_are_walked_one_by_one(rt: HostRuntime) -> Result<(), Fail> {
-    let cases = [
-        (
-            "deneva,2,ycsb,2\nrow,1,a,b\ntxn,p,1,x\nend\n",
-            "fault,input,3,0,arity\n",
-        ),
-        (
-            "deneva,1,ycsb,1\nrow,1,a\ntxn,r,x,q,1\nend\n",
-            "fault,input,3,3,notanumber\n",
-        ),
-        (
-            "deneva,1,ycsb,1\nrow,1,a\ntxn,u,1\nend\n",
-            "fault,input,3,0,arity\n",
-        ),
-        (
-            "deneva,1,ycsb,1\nrow,1,a\ntxn\nend\n",
-            "fault,input,3,0,arity\n",
-        ),
-        (
-            "deneva,1,ycsb,1\nrow,1,a\ntxn,u,1,1,x\nend\n",
-            "fault,input,3,4,outofrange\n",
-        ),
-        (
-            "deneva,1,ycsb,1\nrow,1,a\ntxn,p,1,x\nend\n",
-            "fault,input,3,2,kind\n",
-        ),
-        (
-            "deneva,1,ycsb,1\nrow,1,a\nrow,2,a\nrow,3,a\nrow,4,a\nrow,5,a\nrow,6,a\nrow,7,a\nrow,8,a\nrow,9,a\nrow,10,a\nrow,11,a\nrow,12,a\nrow,13,a\nrow,14,a\nrow,15,a\nrow,16,a\nrow,17,a\ntxn,r,1,r,2,r,3,r,4,r,5,r,6,r,7,r,8,r,9,r,10,r,11,r,12,r,13,r,14,r,15,r,16,r,17\nend\n",
-            "fault,input,19,0,toomany,16\n",
-        ),
-    ];
-    assert_eq!(rt; first_other(rt.alloc(), 3, &cases)?, None);
-    Ok(())
-}
-
-#[test]
-fn records_are_read_one_by_one(rt: HostRuntime) -> Result<(), Fail> {
-    let cases = [
-        (
-            "deneva,1,ycsb,1\nrow,1,a\ndeneva,1,ycsb,1\nend\n",
-            "fault,input,3,1,kind\n",
-        ),
-        (
-            "deneva,1,ycsb,1\nrow,1,a\nrow,1,b\nend\n",
-            "fault,input,3,2,repeated\n",
-        ),
-        (
-            "deneva,1,ycsb,1\nrow,1,a\ntxn,r,1\nrow,2,b\nend\n",
-            "fault,input,4,1,kind\n",
-        ),
-        (
-            "deneva,1,ycsb,1\nrow,1,a,b\nend\n",
-            "fault,input,2,0,arity\n",
-        ),
-        (
-            "deneva,1,ycsb,1\nrow,1,a\nend,1\n",
-            "fault,input,3,0,arity\n",
-        ),
-        // A quote comes before every other fault, also before one in an earlier record.
-        ("deneva,9\nrow,1,a\"b\nend\n", "fault,input,2,3,kind\n"),
-    ];
-    assert_eq!(rt; first_other(rt.alloc(), 3, &cases)?, None);
+    let input = "deneva,1,ycsb,1\nrow,1,a\ntxn,r,1,u,1,0,b\nend\n";
+    let (status, sink) = run(rt.alloc(), &["serial"], input)?;
+    assert_eq!(rt; status, 3);
+    assert_eq!(rt; sink.bytes(), b"fault,input,3,5,repeated\n".as_slice());
     Ok(())
 }
 
@@ -200,14 +88,20 @@ fn only(alloc: Global, number: u32) -> Result<CountList, NoMemory> {
     Ok(numbers)
 }
 
-/// The status of a serial run whose source fails at this read and whose sink fails at this write, and the sink.
-fn run_failing(alloc: Global, read: u32, write: u32) -> Result<(u8, MemSink), NoMemory> {
-    let words = words_of(alloc, &["serial"])?;
-    let bytes = ByteList::from_bytes(alloc, TWO_UPDATES.as_bytes())?;
+/// What a call whose source fails at this read and whose sink fails at this write ends with, and the sink.
+fn run_failing(
+    alloc: Global,
+    words: &[&str],
+    input: &str,
+    read: u32,
+    write: u32,
+) -> Result<(Ended, MemSink), NoMemory> {
+    let words = words_of(alloc, words)?;
+    let bytes = ByteList::from_bytes(alloc, input.as_bytes())?;
     let mut source = MemSource::new(bytes, only(alloc, read)?);
     let mut sink = MemSink::new(alloc, ROOM, only(alloc, write)?)?;
     let ended = deneva(alloc, &words, &mut source, &mut sink);
-    Ok((ended.status, sink))
+    Ok((ended, sink))
 }
 
 #[test]
@@ -222,9 +116,31 @@ fn a_failing_stream_is_told(rt: HostRuntime) -> Result<(), Fail> {
         (0, 0, 5, ""),
     ];
     for (read, write, status, text) in &cases {
-        let (ended, sink) = run_failing(rt.alloc(), *read, *write)?;
-        assert_eq!(rt; ended, *status);
+        let (ended, sink) = run_failing(rt.alloc(), &["serial"], TWO_UPDATES, *read, *write)?;
+        assert_eq!(rt; ended.status, *status);
         assert_eq!(rt; sink.bytes(), text.as_bytes());
+    }
+    Ok(())
+}
+
+#[test]
+fn a_run_is_kept_at_status_0_alone(rt: HostRuntime) -> Result<(), Fail> {
+    // The source is read once for its bytes and once for its end; the report is one piece. The run has a Start, an Ask, a
+    // Granted, a Prepare, a Yes, a Commit and a Done; under CALVIN a Tick, a Batch, a Rows and a Finished.
+    let cases = [
+        ("nowait", 0, 9, 4, None),
+        ("nowait", 1, 9, 4, None),
+        ("nowait", 2, 9, 0, Some(7)),
+        ("nowait", 9, 0, 5, None),
+        ("nowait", 9, 1, 0, Some(7)),
+        ("nowait", 0, 0, 5, None),
+        ("calvin", 9, 9, 0, Some(4)),
+    ];
+    for (protocol, read, write, status, entries) in &cases {
+        let words = ["replay", "--protocol", *protocol];
+        let (ended, _) = run_failing(rt.alloc(), &words, ONE_UPDATE, *read, *write)?;
+        assert_eq!(rt; ended.status, *status);
+        assert_eq!(rt; ended.run.map(|run| run.history.len()), *entries);
     }
     Ok(())
 }

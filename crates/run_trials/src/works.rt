@@ -1,4 +1,4 @@
-//! Small workloads, whose rows have one field with one letter.
+//! A small workload, whose rows have one field with one letter.
 
 use deneva_base::{ByteList, Cell, CellList, Keyed, Row, RowList};
 use std::alloc::Global;
@@ -61,21 +61,6 @@ fn program(alloc: Global, steps: &[Step]) -> Result<Program, Fail> {
         list.push(step_of(alloc, *step)?)?;
     }
     Ok(Program::Ycsb(list))
-}
-
-/// Five transactions that meet on three keys of two partitions.
-pub(crate) fn crossing(alloc: Global) -> Result<Workload, Fail> {
-    let load = load(alloc, &[(1, b'a'), (2, b'b'), (4, b'c')])?;
-    let mut programs = ProgramList::new(alloc);
-    programs.push(program(alloc, &[Step::Update(1, b'p'), Step::Read(2)])?)?;
-    programs.push(program(alloc, &[Step::Update(2, b'q'), Step::Update(1, b'r')])?)?;
-    programs.push(program(
-        alloc,
-        &[Step::Read(4), Step::Read(2), Step::Update(1, b's')],
-    )?)?;
-    programs.push(program(alloc, &[Step::Read(1)])?)?;
-    programs.push(program(alloc, &[Step::Update(2, b't'), Step::Update(4, b'u')])?)?;
-    Ok(Workload { load, programs })
 }
 
 /// Two transactions that meet on key 1. The first begins at partition 0 and goes on to partition 1, where the second

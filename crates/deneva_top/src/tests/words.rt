@@ -150,98 +150,20 @@ fn an_order_lists_numbers(rt: HostRuntime) -> Result<(), Fail> {
     Ok(())
 }
 
-/// The first of the lines that gives a command.
-fn first_command(alloc: Global, lines: &[&str]) -> Result<Option<usize>, NoMemory> {
-    for index in 0..lines.len() {
-        if command(alloc, lines[index])?.is_some() {
-            return Ok(Some(index));
-        }
-    }
-    Ok(None)
-}
-
 #[test]
 fn other_words_give_no_command(rt: HostRuntime) -> Result<(), Fail> {
+    // The last two end with a word of no letter.
     let lines = [
         "",
-        "run",
-        "Serial",
         "serial serial",
-        "serial --protocol nowait",
         "replay",
-        "replay serial",
-        "--protocol nowait",
-    ];
-    assert_eq!(rt; first_command(rt.alloc(), &lines)?, None);
-    assert_eq!(rt; command_of(rt.alloc(), &[])?, None);
-    assert_eq!(rt; command(rt.alloc(), "serial")?, Some(Command::Serial));
-    Ok(())
-}
-
-#[test]
-fn values_beyond_their_ranges_give_no_command(rt: HostRuntime) -> Result<(), Fail> {
-    let lines = [
-        "replay --protocol nowait --partitions 0",
-        "replay --protocol nowait --partitions 17",
-        "replay --protocol nowait --partitions 01",
-        "replay --protocol nowait --partitions +1",
-        "replay --protocol nowait --partitions -1",
-        "replay --protocol nowait --partitions 4294967297",
         "replay --protocol nowait --partitions ",
-        "replay --protocol nowait --attempts 0",
-        "replay --protocol nowait --attempts 9",
-        "replay --protocol nowait --limit 0",
-        "replay --protocol nowait --limit 65",
-        "replay --protocol nowait --limit 6 4",
-        "replay --protocol NoWait",
-        "replay --protocol serial",
         "replay --protocol ",
     ];
-    assert_eq!(rt; first_command(rt.alloc(), &lines)?, None);
-    Ok(())
-}
-
-/// Options that are required, repeated, unknown, without a value or of another form.
-#[test]
-fn options_of_another_form_give_no_command(rt: HostRuntime) -> Result<(), Fail> {
-    let lines = [
-        "replay --partitions 2",
-        "replay --protocol nowait --protocol nowait",
-        "replay --protocol nowait --partitions 2 --partitions 3",
-        "replay --protocol nowait --workers 2",
-        "replay --protocol nowait --part 2",
-        "replay --protocol nowait partitions 2",
-        "replay --protocol nowait --help",
-        "replay --protocol nowait --brief",
-        "replay --protocol nowait --",
-        "replay --protocol nowait -- --partitions 2",
-        "replay --protocol nowait --partitions",
-        "replay --protocol nowait --partitions=2",
-        "replay --protocol=nowait",
-        "replay --protocol",
-        "replay nowait --protocol",
-    ];
-    assert_eq!(rt; first_command(rt.alloc(), &lines)?, None);
-    Ok(())
-}
-
-#[test]
-fn other_orders_give_no_command(rt: HostRuntime) -> Result<(), Fail> {
-    let lines = [
-        "replay --protocol nowait --order random",
-        "replay --protocol nowait --order seed",
-        "replay --protocol nowait --order seed:",
-        "replay --protocol nowait --order seed:07",
-        "replay --protocol nowait --order seed:18446744073709551616",
-        "replay --protocol nowait --order list",
-        "replay --protocol nowait --order list:",
-        "replay --protocol nowait --order list:.",
-        "replay --protocol nowait --order list:1..2",
-        "replay --protocol nowait --order list:1.2.",
-        "replay --protocol nowait --order list:1,2",
-        "replay --protocol nowait --order list:00",
-        "replay --protocol nowait --order list:4294967296",
-    ];
-    assert_eq!(rt; first_command(rt.alloc(), &lines)?, None);
+    for line in &lines {
+        assert_eq!(rt; command(rt.alloc(), line)?, None);
+    }
+    assert_eq!(rt; command_of(rt.alloc(), &[])?, None);
+    assert_eq!(rt; command(rt.alloc(), "serial")?, Some(Command::Serial));
     Ok(())
 }
