@@ -11,7 +11,6 @@ use Rattle.txn_program.specs.Serial.{all_ids}
 use Rattle.txn_program.specs.Valid.{IsValid}
 use Rattle.txn_program.specs.declared.programs.Workload.{Workload}
 use Rattle.txn_program.proofs.WorkloadLaws.{distinct_loaded}
-use Rattle.deneva_base.proofs.Membership.{in_map_from}
 use Rattle.server_core.specs.Atomic.{IsAtomic}
 use Rattle.server_core.specs.CalvinAtomic.{IsFinishedAt}
 use Rattle.server_core.specs.Calvin.{says, opening}
@@ -22,11 +21,10 @@ use Rattle.server_core.specs.Family.{Family, family, calvin}
 use Rattle.server_core.specs.Fits.{AllFitting, AllFittingBy}
 use Rattle.server_core.specs.GlobalOrder.{order, number}
 use Rattle.server_core.specs.Named.{AllNamed}
-use Rattle.server_core.specs.IsSerial.{IsSerial, IsDecided, Rises, ran}
+use Rattle.server_core.specs.IsSerial.{IsSerial, Rises, ran}
 use Rattle.server_core.specs.CalvinScheduler.{ordered_rows, now}
 use Rattle.server_core.specs.NodeRows.{rows_of_node}
-use Rattle.server_core.specs.Lines.{sort_lines}
-use Rattle.server_core.specs.Outcome.{outcome, outcome_in, outcome_with, rows_of, last_rows}
+use Rattle.server_core.specs.Outcome.{outcome, outcome_in, outcome_with, rows_of}
 use Rattle.server_core.specs.CalvinLimits.{most_ordered}
 use Rattle.server_core.specs.Picks.{Progress, deliveries, position, picked, most_entries}
 use Rattle.server_core.specs.Runs.{heard, Reaches}

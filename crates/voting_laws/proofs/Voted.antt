@@ -25,7 +25,7 @@ use Rattle.server_core.specs.Aborts.{aborts_of}
 use Rattle.server_core.specs.Atomic.{IsAtomic}
 use Rattle.server_core.specs.Family.{Family, family_of, family, voting as votes}
 use Rattle.server_core.specs.Fits.{AllFitting, AllFittingBy}
-use Rattle.server_core.specs.IsSerial.{IsSerial, IsDecided, IsGivenUp, Rises, ran}
+use Rattle.server_core.specs.IsSerial.{IsSerial, IsDecided, IsGivenUp, ran}
 use Rattle.server_core.specs.Named.{AllNamed}
 use Rattle.server_core.specs.Participant.{node_rows}
 use Rattle.server_core.specs.Lines.{lines, sort_lines, giveups_of}

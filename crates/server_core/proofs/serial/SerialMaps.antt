@@ -1,5 +1,5 @@
 -- The serial execution on a map of rows in key order is the one on rows by key.
-use Rattle.std.proofs.Common.{◌≡◌, Bool, true, false, cond, List, [], ◌∷◌, ◌++◌, map, Option, Some, None, refl, sym, ap, ap₂, ◌∙◌, subst, inl, inr, ⊎_elim}
+use Rattle.std.proofs.Common.{◌≡◌, Bool, true, false, cond, List, [], ◌∷◌, ◌++◌, map, Option, Some, None, refl, sym, ap, ap₂, ◌∙◌, inl, inr, ⊎_elim}
 use Rattle.std.specs.List.{flat_map}
 use Rattle.deneva_base.specs.Lists.{IsIn}
 use Rattle.deneva_base.specs.Modes.{reads}
@@ -10,7 +10,7 @@ use Rattle.deneva_base.specs.declared.keys.Access.{Access}
 use Rattle.deneva_base.specs.declared.keys.Key.{Key}
 use Rattle.deneva_base.specs.declared.numbers.TxnId.{TxnId}
 use Rattle.deneva_base.specs.declared.rows.Keyed.{Keyed}
-use Rattle.deneva_base.proofs.PutRows.{keys_rise-put_all, put_all-append, in_key_order-rising, row_of-put, row_of-member, row_of-none, row_at-row_of}
+use Rattle.deneva_base.proofs.PutRows.{keys_rise-put_all, put_all-append, row_of-put, row_of-member, row_of-none, row_at-row_of}
 use Rattle.deneva_base.proofs.Membership.{key_tells}
 use Rattle.txn_program.specs.Apart.{DistinctBy}
 use Rattle.txn_program.specs.Serial.{reads_from, reads_of, effect_on, settled, map_after, turn, turns, last_map, serial}
