@@ -14,7 +14,8 @@ use Rattle.txn_program.proofs.Ids.{few_ids}
 use Rattle.server_core.specs.GlobalOrder.{eights, epochs, index_of, number, number_at}
 use Rattle.server_core.specs.Setting.{Setting, setting, home, homes}
 use Rattle.server_core.proofs.lists.ListTests.{id_tells, id_self, same_number}
-use Rattle.calvin_seq.proofs.Places.{id_of, homes_until, home_at}
+use Rattle.server_core.proofs.roles.Homes.{id_of}
+use Rattle.calvin_seq.proofs.Places.{homes_until, home_at}
 
 -- with one element more in front
 index_cons : (p : TxnId → Bool) (x y : TxnId) (xs ys : List TxnId) → id_eq y x ≡ false → index_of x (filter p xs) ≡ length (filter p ys) → index_of x (filter p (y ∷ xs)) ≡ length (filter p (y ∷ ys))

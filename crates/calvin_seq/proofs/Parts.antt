@@ -13,7 +13,7 @@ use Rattle.txn_program.specs.declared.programs.Workload.{Workload}
 use Rattle.server_core.specs.Setting.{setting, parts_for}
 use Rattle.server_core.proofs.lists.ListTests.{below_length}
 use Rattle.calvin_seq.proofs.Counts.{few_pass}
-use Rattle.calvin_seq.proofs.Places.{id_of}
+use Rattle.server_core.proofs.roles.Homes.{id_of}
 
 -- no more than there are partitions
 pub few_parts : (parts : ℕ) (list : List Access) → length (parts_of parts list) ≤ parts

@@ -1,48 +1,25 @@
--- Ids by their places, and the homes of transactions.
-use Rattle.std.proofs.Common.{◌≡◌, ◌<◌, ◌≤◌, ◌+◌, ◌-◌, ℕ, zero, suc, List, [], ◌∷◌, ◌++◌, length, get_or, slice_get, Some, take, eqb, true, cond, refl, ap, ◌∙◌, subst, arith}
+-- The homes of the first transactions of a workload.
+use Rattle.std.proofs.Common.{◌≡◌, ◌<◌, ◌≤◌, ◌+◌, ◌-◌, ℕ, List, [], ◌∷◌, ◌++◌, length, get_or, slice_get, Some, take, eqb, true, cond, ap, ◌∙◌, subst, arith}
 use Rattle.std.specs.List.{filter}
 use Rattle.std.proofs.lemmas.List.{take_all}
-use Rattle.std.proofs.lemmas.List.Elements.{filter_more}
 use Rattle.std.proofs.lemmas.Option.{get_or_from_slice_get}
-use Rattle.deneva_base.specs.Partitions.{partition_of}
 use Rattle.deneva_base.specs.declared.config.Config.{Config}
-use Rattle.deneva_base.specs.declared.keys.Access.{Access}
 use Rattle.deneva_base.specs.declared.numbers.TxnId.{TxnId}
-use Rattle.txn_program.specs.Serial.{all_ids, ids_from, program_of}
-use Rattle.txn_program.specs.Transactions.{accesses, first_key, home_of}
+use Rattle.txn_program.specs.Serial.{all_ids, program_of}
+use Rattle.txn_program.specs.Transactions.{accesses, home_of}
 use Rattle.txn_program.specs.Valid.{IsValid, is_valid_program}
-use Rattle.txn_program.specs.declared.programs.Load.{Load}
 use Rattle.txn_program.specs.declared.programs.Program.{Program}
 use Rattle.txn_program.specs.declared.programs.Program.TheVariants.{Ycsb}
 use Rattle.txn_program.specs.declared.programs.Workload.{Workload}
 use Rattle.txn_program.proofs.Ids.{id_for_each}
 use Rattle.txn_program.proofs.ValidPrograms.{valid_program}
 use Rattle.server_core.specs.Setting.{Setting, setting, home, homes, home_in}
-
--- the id at a place
-abbrev pub id_of : ℕ → TxnId
-id_of k = record { 0 = k + 1 }
-
-from_at : (n : ℕ) (ps : List Program) (k : ℕ) (d : TxnId) → k < length ps → get_or (ids_from n ps) k d ≡ record { 0 = n + k }
-from_at n [] k d less = absurd (omega (arith, less))
-from_at n (p ∷ ps) zero d less = ap (λ (i : ℕ). record { 0 = i }) (omega arith)
-from_at n (p ∷ ps) (suc k) d less = from_at (n + 1) ps k d (omega (arith, less)) ∙ ap (λ (i : ℕ). record { 0 = i }) (omega arith)
-
-pub id_at : (work : Workload) (k : ℕ) → k < length work.programs → get_or (all_ids work) k (id_of k) ≡ id_of k
-id_at work k less = from_at 1 work.programs k (id_of k) less ∙ ap (λ (i : ℕ). record { 0 = i }) (omega arith)
+use Rattle.server_core.proofs.roles.Homes.{id_of, home_is, ids_more}
 
 -- each program is valid
 pub valid_at : (work : Workload) → IsValid work → (k : ℕ) → k < length work.programs → (program : Program) → slice_get work.programs k ≡ Some program → is_valid_program work.load program ≡ true
 valid_at work valid k less program got =
     subst (λ (p : Program). is_valid_program work.load p ≡ true) (get_or_from_slice_get work.programs k program (Ycsb []) got) (valid_program work valid k (Ycsb []) less)
-
--- the home of a setting is that of the program
-pub home_is : (load : Load) (program : Program) (parts : ℕ) → 1 ≤ parts → home_in parts (accesses load program) ≡ home_of load program parts
-home_is load program parts some = go (accesses load program)
-  where
-    go : (list : List Access) → home_in parts list ≡ partition_of (first_key list) parts
-    go [] = omega arith
-    go (a ∷ list) = refl
 
 -- the homes of a node among the first k transactions
 abbrev pub homes_until : Setting → ℕ → ℕ → List TxnId
@@ -63,6 +40,5 @@ module _ (work : Workload) (k : ℕ) (less : k < length work.programs) (program 
   -- and among one more
   pub more_homes : (q : ℕ) → homes_until (setting c work) q (k + 1) ≡ homes_until (setting c work) q k ++ cond (eqb (home_of work.load program parts) q) (id_of k ∷ []) []
   more_homes q =
-      filter_more (λ x. eqb (home (setting c work) x) q) (all_ids work) k (id_of k) (omega (arith, less, id_for_each work))
-      ∙ ap (λ (i : TxnId). homes_until (setting c work) q k ++ cond (eqb (home (setting c work) i) q) (i ∷ []) []) (id_at work k less)
+      ids_more work k less (λ x. eqb (home (setting c work) x) q)
       ∙ ap (λ (n : ℕ). homes_until (setting c work) q k ++ cond (eqb n q) (id_of k ∷ []) []) home_at

@@ -5,7 +5,8 @@ use Rattle.txn_program.proofs.ValidPrograms.{few_programs}
 use Rattle.server_core.specs.GlobalOrder.{number, number_at}
 use Rattle.server_core.specs.Setting.{setting}
 use Rattle.calvin_seq.proofs.Counts.{number_is}
-use Rattle.calvin_seq.proofs.Places.{id_of, valid_at}
+use Rattle.server_core.proofs.roles.Homes.{id_of}
+use Rattle.calvin_seq.proofs.Places.{valid_at}
 use Rattle.calvin_seq.proofs.order.calvin_number.Goals as goal
 
 pub overflow_sub-at : goal.overflow_sub-at

@@ -9,7 +9,8 @@ use Rattle.txn_program.proofs.Ids.{id_for_each}
 use Rattle.server_core.specs.GlobalOrder.{number, numbered}
 use Rattle.server_core.specs.Setting.{setting}
 use Rattle.calvin_seq.proofs.Counts.{number_is}
-use Rattle.calvin_seq.proofs.Places.{id_of, id_at, homes_until, valid_at, more_homes}
+use Rattle.server_core.proofs.roles.Homes.{id_of, id_at}
+use Rattle.calvin_seq.proofs.Places.{homes_until, valid_at, more_homes}
 use Rattle.calvin_seq.proofs.order.numbers_of.Goals as goal
 
 pub home-seq-requires-clause-valid : goal.home-seq-requires-clause-valid

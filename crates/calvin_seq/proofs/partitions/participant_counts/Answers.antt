@@ -7,7 +7,7 @@ use Rattle.txn_program.specs.Transactions.{parts_of}
 use Rattle.txn_program.proofs.Ids.{id_for_each}
 use Rattle.server_core.specs.Setting.{setting, parts_for}
 use Rattle.calvin_seq.proofs.Parts.{few_parts, parts_at}
-use Rattle.calvin_seq.proofs.Places.{id_of, id_at}
+use Rattle.server_core.proofs.roles.Homes.{id_of, id_at}
 use Rattle.calvin_seq.proofs.partitions.participant_counts.Goals as goal
 
 pub overflow_cast-len : goal.overflow_cast-len
