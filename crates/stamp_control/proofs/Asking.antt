@@ -28,14 +28,15 @@ use Rattle.row_store.specs.Stores.{version_at}
 use Rattle.row_store.proofs.Tables.{same_key-key_eq}
 use Rattle.stamp_lines.specs.declared.requests.Request.{Request}
 use Rattle.stamp_lines.specs.Requests.{put_request}
-use Rattle.stamp_lines.specs.Tables.{same_key}
+use Rattle.key_table.specs.Keys.{same_key}
 use Rattle.stamp_lines.proofs.Asking.{grew, ask_granted, ask_waits, ask_refused, same_tracks}
-use Rattle.stamp_lines.proofs.Places.{same_tells}
+use Rattle.key_table.proofs.Places.{same_tells}
 use Rattle.stamp_control.specs.declared.table.Table.{Table}
 use Rattle.stamp_control.specs.Picks.{newer_than, offer, pick}
 use Rattle.stamp_control.specs.Pasts.{Kept, past_at, is_numbered, with_version, with_latest, raised, granted_at}
 use Rattle.stamp_control.specs.Changes.{writers_in, version_or, Grants, LetsWait, MayWiden}
-use Rattle.stamp_control.specs.Standing.{State, state_of, version_of, IsPast, Tracks}
+use Rattle.shelf.specs.Keeps.{version_of}
+use Rattle.stamp_control.specs.Standing.{State, state_of, IsPast, Tracks}
 use Rattle.stamp_control.proofs.Counting.{writers_put}
 use Rattle.stamp_control.proofs.Histories.{latest_is, below_latest, ask_apart}
 use Rattle.stamp_control.proofs.Picks.{lt_irrefl, pick_more, pick_in}
@@ -46,16 +47,12 @@ widened loaded h old new t c =
     let s : State = state_of old in
     let s' : State = state_of new in
     record {
-      accesses = same_tracks h old.accesses new.accesses c.accesses t.accesses;
+      accesses = same_tracks loaded h old.accesses new.accesses c.accesses t.accesses;
       read = λ k. (c.pasts k).read ∙ t.read k;
       waited = λ a i. ap (λ vs. option_map version_of (pick a.stamp vs)) (c.pasts a.key).versions ∙ t.waited a i;
       kept = λ k v i. t.kept k v (subst (λ vs. IsIn v vs) (c.pasts k).versions i);
       writers = λ k. let w = t.writers k in let e = ap writers_in (c.accesses.lines k) in let p = (c.pasts k).spare in omega (arith, w, e, p);
       there = λ a i. (c.pasts a.key).present (t.there a i);
-      tables = t.tables;
-      versions = λ k. ap (λ x. option_map version_of (version_at x k)) c.store ∙ t.versions k;
-      promised = c.promised ∙ t.promised;
-      room = let e = ap (λ x. x.spare) c.store in omega (arith, t.room, c.promised, e);
     }
 
 -- the number of writers at the key and elsewhere
@@ -147,10 +144,6 @@ module _ (loaded : Rows) (h : History) (known : Known loaded h) (sound : Sound l
             (λ x. let w = t.writers k in let e = (c.reserves.same k).spare in omega (arith, x.1, w, e, spare))
             (writers_at key k r s.accesses.requests s'.accesses.requests (c.accesses.lines k));
         there = λ a i. subst (λ (p : Kept). p.present ≡ true) (sym (c.pasts a.key)) (granted_present key stamp mode a.key (past_at c.between a.key) ((c.reserves.same a.key).present (t.there a i)));
-        tables = t.tables;
-        versions = λ k. ap (λ x. option_map version_of (version_at x k)) c.store ∙ t.versions k;
-        promised = c.promised ∙ t.promised;
-        room = let e = ap (λ x. x.spare) c.store in omega (arith, t.room, c.promised, e);
       }
 
   -- it is refused
@@ -162,10 +155,6 @@ module _ (loaded : Rows) (h : History) (known : Known loaded h) (sound : Sound l
     kept = λ k v i. let p = t.kept k v i in record { not_later = p.not_later; same = p.same };
     writers = t.writers;
     there = t.there;
-    tables = t.tables;
-    versions = t.versions;
-    promised = t.promised;
-    room = t.room;
   }
 
   module _ (top : top_written h key ≤ stamp) where
@@ -257,14 +246,14 @@ module _ (loaded : Rows) (h : History) (known : Known loaded h) (sound : Sound l
   version_is (Some v) l e = some_is (version_of v) l e
 
   -- it waits
-  pub waits_tracks : (old new : Table) → Tracks loaded (state_of old) h → option_map version_of (version_at old.store key) ≡ Some (latest loaded h key) → top_written h key ≤ stamp → LetsWait key (record { who = who; stamp = stamp; mode = mode; waits = false }) old new → Tracks loaded (state_of new) (Ask who stamp key mode Waits ∷ h)
+  pub waits_tracks : (old new : Table) → Tracks loaded (state_of old) h → option_map version_of (version_at old.accesses.shelf.store key) ≡ Some (latest loaded h key) → top_written h key ≤ stamp → LetsWait key (record { who = who; stamp = stamp; mode = mode; waits = false }) old new → Tracks loaded (state_of new) (Ask who stamp key mode Waits ∷ h)
   waits_tracks old new t latest_here top c =
       let s : State = state_of old in
       let s' : State = state_of new in
       let r : Request = record { who = who; stamp = stamp; mode = mode; waits = true } in
       let mid : Kept = past_at c.between key in
-      let L : StoredVersion = version_or (version_at old.store key) in
-      let is : version_of L ≡ latest loaded h key = version_is (version_at old.store key) (latest loaded h key) latest_here in
+      let L : StoredVersion = version_or (version_at old.accesses.shelf.store key) in
+      let is : version_of L ≡ latest loaded h key = version_is (version_at old.accesses.shelf.store key) (latest loaded h key) latest_here in
       let same : mid.versions ≡ (s.pasts key).versions = (c.reserves.same key).versions in
       let cases : (k : Key) → ((key ≡ k) × (s'.pasts k ≡ with_latest stamp L mid)) ⊎ ((key ≢ k) × (s'.pasts k ≡ past_at c.between k)) = λ k. ⊎_elim (λ x. inl (x.1, c.pasts k ∙ ap (λ b. cond b (with_latest stamp L mid) (past_at c.between k)) x.0)) (λ f. inr (f.1, c.pasts k ∙ ap (λ b. cond b (with_latest stamp L mid) (past_at c.between k)) f.0)) (same_tells key k) in
       let here : s'.pasts key ≡ with_latest stamp L mid = ⊎_elim (λ x. x.1) (λ f. absurd (f.0 refl)) (cases key) in
@@ -312,10 +301,6 @@ module _ (loaded : Rows) (h : History) (known : Known loaded h) (sound : Sound l
             (λ j. subst (λ (p : Kept). p.present ≡ true) (sym f.1) ((c.reserves.same a.key).present (t.there a j)))
             i)
             (cases a.key);
-        tables = t.tables;
-        versions = λ k. ap (λ x. option_map version_of (version_at x k)) c.store ∙ t.versions k;
-        promised = c.promised ∙ t.promised;
-        room = let e = ap (λ x. x.spare) c.store in omega (arith, t.room, c.promised, e);
       }
     where
       latest_parts : (n : ℕ) (L : StoredVersion) (p : Kept) → ((with_latest n L p).read ≡ p.read) × (p.spare ≤ (with_latest n L p).spare + 1) × ((with_latest n L p).present ≡ p.present)

@@ -1,6 +1,5 @@
 -- The calls of a table that stands for a history.
 use Rattle.std.proofs.Common.{◌≡◌, ◌≢◌, ℕ, ◌^◌, ◌<◌, ◌≤◌, ltb, List, [], ◌∷◌, ◌++◌, map, filter, Bool, true, false, not, ◌&&◌, cond, length, refl, sym, ap, ap₂, ◌∙◌, subst, inl, inr, arith, Option, Some, None, option_map}
-use Rattle.std.specs.Prelude.{is_some}
 use Rattle.std.proofs.lemmas.Bool.{ltb-false}
 use Rattle.std.specs.List.{list_any}
 use Rattle.deneva_base.specs.declared.keys.Key.{Key}
@@ -20,7 +19,6 @@ use Rattle.protocol_rules.specs.Conditions.{MayAsk, MayPrepare, MayCommit, MayAb
 use Rattle.protocol_rules.specs.History.{Ask, Commit, Abort, History, Asked, waits, yeas, is_woken, IsUnended}
 use Rattle.deneva_base.specs.Keys.{loaded_version}
 use Rattle.protocol_rules.specs.Latest.{Version, latest, row_for, seen, writes_in}
-use Rattle.protocol_rules.specs.Leaving.{rows_left}
 use Rattle.deneva_base.specs.Lists.{IsIn, sort}
 use Rattle.deneva_base.specs.Modes.{reads, writes, IsReading}
 use Rattle.protocol_rules.specs.Order.{by_rising_stamp}
@@ -34,15 +32,18 @@ use Rattle.protocol_rules.proofs.Known.{Known, known, known_more}
 use Rattle.protocol_rules.proofs.Marks.{Marked, marked}
 use Rattle.protocol_rules.proofs.Sorts.{Distinct as DistinctAccesses, sort_in}
 use Rattle.protocol_rules.proofs.Sound.{Sound, sound, writes_found}
-use Rattle.protocol_rules.proofs.Stamping.{wakes_law, windows_law, waits_law, commit_keys, abort_keys}
+use Rattle.protocol_rules.proofs.Stamping.{wakes_law, waits_law, commit_keys, abort_keys}
 use Rattle.protocol_rules.proofs.Timestamps.{stamping}
 use Rattle.protocol_rules.proofs.Traced.{Traced, traced}
 use Rattle.protocol_rules.proofs.Wakes.{distinct_waits}
 use Rattle.deneva_base.proofs.Membership.{filter_in, writing_decides, reading_decides}
 use Rattle.row_store.specs.declared.versions.Version.{Version as StoredVersion}
-use Rattle.row_store.specs.Stores.{Seen, version_at, has, row_in}
+use Rattle.row_store.specs.Stores.{Seen, version_at, row_in}
 use Rattle.control_core.specs.Leaving.{IsLoadedStore}
-use Rattle.control_core.proofs.Lasts.{last_latest, last_rows}
+use Rattle.shelf.specs.Shelves.{read_in}
+use Rattle.shelf.specs.Keeps.{KeepsRows, Apart, Closes}
+use Rattle.shelf.proofs.Closing.{commit_closes, abort_closes}
+use Rattle.shelf.proofs.Versions.{apart, version_is, reads_latest as latest_read}
 use Rattle.stamp_lines.specs.declared.requests.Request.{Request}
 use Rattle.stamp_lines.specs.declared.lines.Waiter.{Waiter}
 use Rattle.stamp_lines.specs.Requests.{is_stopped}
@@ -50,20 +51,19 @@ use Rattle.stamp_lines.specs.Standing.{owner_of}
 use Rattle.stamp_lines.specs.Tables.{requests_at, part_of}
 use Rattle.stamp_lines.proofs.Asking.{none_here}
 use Rattle.stamp_lines.proofs.Calls.{fresh_tracks as no_accesses, few_wait, vote_stamp}
-use Rattle.stamp_lines.proofs.Ending.{Closes, commit_closes, abort_closes}
 use Rattle.stamp_lines.proofs.Waking.{to_waiter, Wakens}
 use Rattle.stamp_control.specs.declared.table.Table.{Table}
 use Rattle.stamp_control.specs.Picks.{pick}
 use Rattle.stamp_control.specs.Pasts.{Kept, past_at}
 use Rattle.stamp_control.specs.Fronts.{front_over}
-use Rattle.stamp_control.specs.Changes.{read_in, written_in, refusal_in, writers_in, pick_after, version_or_empty, wake_for, IsFresh, Grants, LetsWait, Ends, Wakes, EndsAndWakes}
-use Rattle.stamp_control.specs.Standing.{state_of, version_of, Tracks, Stands}
+use Rattle.stamp_control.specs.Changes.{written_in, refusal_in, writers_in, pick_after, version_or_empty, wake_for, IsFresh, Grants, LetsWait, Ends, Wakes, EndsAndWakes}
+use Rattle.shelf.specs.Keeps.{version_of}
+use Rattle.stamp_control.specs.Standing.{state_of, Tracks, Stands}
 use Rattle.stamp_control.proofs.Asking.{granted_tracks, waits_tracks, refused_tracks, reads_latest}
 use Rattle.stamp_control.proofs.Counting.{writers_one_less}
 use Rattle.stamp_control.proofs.Ending.{Leaves, end_tracks, commit_leaves, abort_leaves, offered_below, below_more}
 use Rattle.stamp_control.proofs.Histories.{top_is, votes_distinct, writes_distinct}
 use Rattle.stamp_control.proofs.Letting.{is_stopped_by, front_table, few_woken}
-use Rattle.stamp_control.proofs.Promising.{Apart, votes_apart, promised_less}
 use Rattle.stamp_control.proofs.Waking.{Keeps, woken_tracks, trimmed_tracks}
 
 some_is : {A : Type 0} (x y : A) → Some x ≡ Some y → x ≡ y
@@ -72,15 +72,6 @@ some_is {A} x y e = ap get e
     get : Option A → A
     get None = x
     get (Some z) = z
-
--- what an access reads
-read_is : (mode : Mode) (v : Option StoredVersion) (l : Version) → option_map version_of v ≡ Some l → ((read_in mode v).0 ≡ (seen mode l).row) × ((read_in mode v).1 ≡ (seen mode l).number)
-read_is mode None l e = absurd (cc e)
-read_is mode (Some v) l e = subst (λ x. ((read_in mode (Some v)).0 ≡ (seen mode x).row) × ((read_in mode (Some v)).1 ≡ (seen mode x).number)) (some_is (version_of v) l e) (go (reads mode))
-  where
-    go : (b : Bool) → ((cond {A = Row × Number} b (v.row, v.number) ([], loaded_version)).0 ≡ (cond b (version_of v) (record { number = loaded_version; row = [] })).row) × ((cond {A = Row × Number} b (v.row, v.number) ([], loaded_version)).1 ≡ (cond b (version_of v) (record { number = loaded_version; row = [] })).number)
-    go true = (refl, refl)
-    go false = (refl, refl)
 
 seen_same : (mode : Mode) (a b : Version) → (reads mode ≡ true → a ≡ b) → seen mode a ≡ seen mode b
 seen_same Read a b e = e refl
@@ -131,8 +122,11 @@ module _ (t : Table) (loaded : Rows) (h : History) (stands : Stands t loaded h) 
   pub ls : Listed loaded h
   ls = listed loaded (timestamp loaded) h stands.obeys
 
+  abbrev rows : KeepsRows true loaded t.accesses.shelf h
+  rows = stands.tracks.accesses.kept
+
   votes : Apart (yeas h)
-  votes = votes_apart loaded (timestamp loaded) h stands.obeys (λ k o. sound loaded (timestamp loaded) k o)
+  votes = apart (timestamp loaded) rows stands.obeys
 
   distinct : DistinctAccesses (waits h)
   distinct = distinct_waits loaded (timestamp loaded) h stands.obeys
@@ -142,11 +136,11 @@ module _ (t : Table) (loaded : Rows) (h : History) (stands : Stands t loaded h) 
   waiter_reads a i = (waits_law false loaded (timestamp loaded) (stamping loaded) h stands.obeys a i).0
 
   -- the version of a loaded key
-  version_here : (key : Key) (row : Row) → loaded key ≡ Some row → option_map version_of (version_at t.store key) ≡ Some (latest loaded h key)
-  version_here key row e = stands.tracks.versions key ∙ last_latest loaded (timestamp loaded) h key row stands.obeys e (stands.tracks.tables key row e)
+  version_here : (key : Key) (row : Row) → loaded key ≡ Some row → option_map version_of (version_at t.accesses.shelf.store key) ≡ Some (latest loaded h key)
+  version_here key row e = version_is (timestamp loaded) rows stands.obeys key row e
 
-  written_is : (key : Key) (row : Row) → loaded key ≡ Some row → written_in (version_at t.store key) ≡ top_written h key
-  written_is key row e = go (version_at t.store key) (version_here key row e) ∙ top_is loaded h key
+  written_is : (key : Key) (row : Row) → loaded key ≡ Some row → written_in (version_at t.accesses.shelf.store key) ≡ top_written h key
+  written_is key row e = go (version_at t.accesses.shelf.store key) (version_here key row e) ∙ top_is loaded h key
     where
       go : (v : Option StoredVersion) → option_map version_of v ≡ Some (latest loaded h key) → written_in v ≡ (latest loaded h key).number.n
       go None f = absurd (cc f)
@@ -159,7 +153,7 @@ module _ (t : Table) (loaded : Rows) (h : History) (stands : Stands t loaded h) 
     abbrev rest : Answer
     rest = cond (reads mode && list_any (older_writer (this who stamp key mode)) (holders h)) Waits (granted_with (seen mode (below loaded h key stamp)))
 
-    same_refusal : refusal_in stamp key mode (written_in (version_at t.store key)) (past_at t.pasts key).read ≡ refusal_in stamp key mode (top_written h key) (top_read h key)
+    same_refusal : refusal_in stamp key mode (written_in (version_at t.accesses.shelf.store key)) (past_at t.pasts key).read ≡ refusal_in stamp key mode (top_written h key) (top_read h key)
     same_refusal = ap₂ (refusal_in stamp key mode) (written_is key may.here.0 may.here.1) (stands.tracks.read key)
 
     pub once : (r : Request) → IsIn r (requests_at t.accesses key) → r.who ≢ who
@@ -168,10 +162,10 @@ module _ (t : Table) (loaded : Rows) (h : History) (stands : Stands t loaded h) 
     pub few : t.accesses.waiting < 2 ^ 63
     few = few_wait loaded h (state_of t).accesses stands.tracks.accesses who stamp key may
 
-    pub refused_is : (cause : Cause) → refusal_in stamp key mode (written_in (version_at t.store key)) (past_at t.pasts key).read ≡ Some cause → Refused cause ≡ (timestamp loaded).ask h who stamp key mode
+    pub refused_is : (cause : Cause) → refusal_in stamp key mode (written_in (version_at t.accesses.shelf.store key)) (past_at t.pasts key).read ≡ Some cause → Refused cause ≡ (timestamp loaded).ask h who stamp key mode
     refused_is cause e = refusal_some stamp key mode (top_written h key) (top_read h key) cause rest (sym same_refusal ∙ e)
 
-    module _ (none : refusal_in stamp key mode (written_in (version_at t.store key)) (past_at t.pasts key).read ≡ None) where
+    module _ (none : refusal_in stamp key mode (written_in (version_at t.accesses.shelf.store key)) (past_at t.pasts key).read ≡ None) where
       parts : (rest ≡ (timestamp loaded).ask h who stamp key mode) × ((reads mode && ltb stamp (top_written h key)) ≡ false)
       parts = refusal_none stamp key mode (top_written h key) (top_read h key) rest (sym same_refusal ∙ none)
 
@@ -185,11 +179,11 @@ module _ (t : Table) (loaded : Rows) (h : History) (stands : Stands t loaded h) 
       pub wait_is : (reads mode && is_stopped 0 stamp (requests_at t.accesses key)) ≡ true → Waits ≡ (timestamp loaded).ask h who stamp key mode
       wait_is e = sym (ap (λ b. cond b Waits (granted_with (seen mode (below loaded h key stamp)))) (sym stopped ∙ e)) ∙ parts.0
 
-      pub grant_is : (reads mode && is_stopped 0 stamp (requests_at t.accesses key)) ≡ false → Granted (read_in mode (version_at t.store key)).0 (read_in mode (version_at t.store key)).1 0 ≡ (timestamp loaded).ask h who stamp key mode
+      pub grant_is : (reads mode && is_stopped 0 stamp (requests_at t.accesses key)) ≡ false → Granted (read_in mode (version_at t.accesses.shelf.store key)).0 (read_in mode (version_at t.accesses.shelf.store key)).1 0 ≡ (timestamp loaded).ask h who stamp key mode
       grant_is e =
-          let r = read_is mode (version_at t.store key) (latest loaded h key) (version_here key may.here.0 may.here.1) in
+          let r = latest_read (timestamp loaded) rows stands.obeys key may.here.0 may.here.1 mode in
           let same = seen_same mode (latest loaded h key) (below loaded h key stamp) (λ x. sym (reads_latest loaded h kn so tr mk ls who stamp key mode may (top x))) in
-          ap₂ (λ row number. Granted row number 0) (r.0 ∙ ap (λ (v : Version). v.row) same) (r.1 ∙ ap (λ (v : Version). v.number) same)
+          ap (λ (x : Row × Number). Granted x.0 x.1 0) (r ∙ ap (λ (v : Version). (v.row, v.number)) same)
           ∙ sym (ap (λ b. cond b Waits (granted_with (seen mode (below loaded h key stamp)))) (sym stopped ∙ e))
           ∙ parts.0
 
@@ -209,14 +203,6 @@ module _ (t : Table) (loaded : Rows) (h : History) (stands : Stands t loaded h) 
   pub vote_is : (who : Attempt) (bound : Bound) (writes' appends : List Keyed) → MayPrepare h who bound writes' appends → Yes (part_of t.accesses who).stamp (part_of t.accesses who).stamp ≡ (timestamp loaded).vote h who bound writes' appends
   vote_is who bound writes' appends may = ap (λ n. Yes n n) (vote_stamp loaded h (state_of t).accesses kn tr stands.tracks.accesses who bound writes' appends may)
 
-  -- the rows that are left
-  pub rows_are : (key : Key) → row_in t.store key ≡ rows_left loaded h key
-  rows_are key = rows (version_at t.store key) ∙ ap (option_map (λ v. v.row)) (stands.tracks.versions key) ∙ last_rows loaded (timestamp loaded) (windows_law false loaded (timestamp loaded) (stamping loaded)) h key stands.obeys
-    where
-      rows : (v : Option StoredVersion) → option_map (λ x. x.row) v ≡ option_map (λ x. x.row) (option_map version_of v)
-      rows None = refl
-      rows (Some v) = refl
-
   -- what the end of an attempt asks of the table
   module _ (who : Attempt) (unended : IsUnended h who) where
     -- the attempt holds what it is to write
@@ -229,30 +215,15 @@ module _ (t : Table) (loaded : Rows) (h : History) (stands : Stands t loaded h) 
         let mine : g.0.who ≡ who = g.2 ∙ y.1 in
         (owner_of g.0, subst (λ z. IsIn (owner_of g.0) (requests_at t.accesses z)) g.3 (stands.tracks.accesses.owned g.0 g.1 (subst (λ z. IsUnended h z) (sym mine) unended)), mine, (writing_decides g.0.mode).1 g.4, (row.0, subst (λ k. loaded k ≡ Some row.0) (a.3 ∙ g.3) row.1))
 
-    pub present : (w : Keyed) → IsIn w (part_of t.accesses who).writes → has t.store w.key ≡ true
-    present w i =
-        let r = (writer w (subst (λ l. IsIn w l) (stands.tracks.accesses.rows who unended).0 i)).4 in
-        some (version_at t.store w.key) (version_here w.key r.0 r.1)
-      where
-        some : (v : Option StoredVersion) → option_map version_of v ≡ Some (latest loaded h w.key) → is_some v ≡ true
-        some None e = absurd (cc e)
-        some (Some v) e = refl
-
-    pub promised : length (part_of t.accesses who).appends ≤ t.promised
-    promised =
-        let mine = ap (λ (l : List Keyed). length l) (stands.tracks.accesses.rows who unended).2 in
-        let less = promised_less h (Abort who [] ∷ h) who (yeas h) refl unended votes in
-        omega (arith, mine, less, stands.tracks.promised)
-
     written_distinct : Distinct (writes_in (yeas h) who)
     written_distinct = writes_distinct loaded (yeas h) who (votes_distinct loaded (timestamp loaded) h stands.obeys)
 
     pub copies_distinct : Distinct (part_of t.accesses who).copies
-    copies_distinct = subst (λ l. Distinct l) (sym (stands.tracks.accesses.rows who unended).1) written_distinct
+    copies_distinct = subst (λ l. Distinct l) (sym (stands.tracks.accesses.kept.rows who unended).1) written_distinct
 
     pub spare : (w : Keyed) → IsIn w (part_of t.accesses who).copies → 1 ≤ (past_at t.pasts w.key).spare
     spare w i =
-        let r = writer w (subst (λ l. IsIn w l) (stands.tracks.accesses.rows who unended).1 i) in
+        let r = writer w (subst (λ l. IsIn w l) (stands.tracks.accesses.kept.rows who unended).1 i) in
         let one = writers_one_less who r.0 (requests_at t.accesses w.key) r.1 r.2 r.3 in
         let room = stands.tracks.writers w.key in
         omega (arith, one, room)
@@ -274,7 +245,7 @@ module _ (t : Table) (loaded : Rows) (h : History) (stands : Stands t loaded h) 
           each : (a : Asked) → IsIn a (sort by_rising_stamp (filter (goes older_writer h h1 who) (waits h))) → wake_for t.pasts number (part_of t.accesses who).writes (to_waiter a) ≡ wake_of loaded h1 a
           each a i =
               let w = (filter_in (goes older_writer h h1 who) a (waits h) (sort_in by_rising_stamp a (filter (goes older_writer h h1 who) (waits h)) i)).0 in
-              let mine = ap (row_for a.key) (stands.tracks.accesses.rows who unended).0 in
+              let mine = ap (row_for a.key) (stands.tracks.accesses.kept.rows who unended).0 in
               let now = ap (λ r. option_map version_of (pick_after number r a.stamp (pick a.stamp (past_at t.pasts a.key).versions))) mine ∙ belows a w in
               let p = picked_is (pick_after number (row_for a.key (part_of t.accesses who).writes) a.stamp (pick a.stamp (past_at t.pasts a.key).versions)) (below loaded h1 a.key a.stamp) now in
               let read = (reading_decides a.mode).1 (waiter_reads a w) in
@@ -285,15 +256,15 @@ module _ (t : Table) (loaded : Rows) (h : History) (stands : Stands t loaded h) 
       pub ended_tracks : (make : List Wake → History) → Known loaded h1 → Wakens h1 (make (map (wake_of loaded h1) (sort by_rising_stamp (filter (goes older_writer h h1 who) (waits h1))))) (map (wake_of loaded h1) (sort by_rising_stamp (filter (goes older_writer h h1 who) (waits h1)))) → Keeps loaded h1 (make (map (wake_of loaded h1) (sort by_rising_stamp (filter (goes older_writer h h1 who) (waits h1))))) → ((new : Table) → Ends who number t new → Leaves loaded h h1 (state_of t) (state_of new)) → (new : Table) → EndsAndWakes who number (front_over who t.accesses (part_of t.accesses who).keys) t new → Tracks loaded (state_of new) (make (wakes loaded older_writer h h1 who))
       ended_tracks make known1 w keeps leaves new e =
           let all : List Wake = map (wake_of loaded h1) (sort by_rising_stamp (filter (goes older_writer h h1 who) (waits h1))) in
-          let same : all ≡ wakes loaded older_writer h h1 who = ap (λ ws. map (wake_of loaded h1) (sort by_rising_stamp (filter (goes older_writer h h1 who) ws))) c.waits_kept in
-          let front = front_is ∙ ap (λ ws. map to_waiter (sort by_rising_stamp (filter (goes older_writer h h1 who) ws))) (sym c.waits_kept) in
+          let same : all ≡ wakes loaded older_writer h h1 who = ap (λ ws. map (wake_of loaded h1) (sort by_rising_stamp (filter (goes older_writer h h1 who) ws))) c.waits_same in
+          let front = front_is ∙ ap (λ ws. map to_waiter (sort by_rising_stamp (filter (goes older_writer h h1 who) ws))) (sym c.waits_same) in
           let ended = end_tracks loaded h h1 who number votes c t e.ended e.ends (leaves e.ended e.ends) stands.tracks in
           let awake = woken_tracks loaded h1 (make all) known1 (goes older_writer h h1 who) w keeps e.ended e.awake (subst (λ (f : List Waiter). Wakes f e.ended e.awake) front e.wakes) ended in
           subst (λ ws. Tracks loaded (state_of new) (make ws)) same (trimmed_tracks loaded (make all) e.awake new e.trims awake)
 
   module _ (who : Attempt) (number : Number) (may : MayCommit h who number) where
     commit_closed : Closes h (Commit who number [] ∷ h) who
-    commit_closed = commit_closes loaded h who number kn so may
+    commit_closed = commit_closes kn so may
 
     commit_others : (a : Asked) → IsIn a (waits h) → holds h who a.key ≡ false → list_any (older_writer a) (holders (Commit who number [] ∷ h)) ≡ true
     commit_others a i n = commit_keys false loaded (timestamp loaded) (stamping loaded) h who number a stands.obeys i n
@@ -320,9 +291,9 @@ module _ (t : Table) (loaded : Rows) (h : History) (stands : Stands t loaded h) 
         ended_tracks who may.unended (Some number) h1 commit_closed commit_others commit_belows
         (λ woken. Commit who number woken ∷ h)
         (known_more loaded h (Commit who number []) may so kn)
-        (record { grants_more = refl; waits_less = ap (filter (λ a. not (is_woken ws a))) (sym (commit_closed).waits_kept); ended_same = refl; yeas_same = refl })
+        (record { grants_more = refl; waits_less = ap (filter (λ a. not (is_woken ws a))) (sym (commit_closed).waits_same); ended_same = refl; yeas_same = refl })
         (record { belows = λ k n. refl; latests = λ k. refl; lasts = λ k. refl })
-        (λ x y. commit_leaves loaded h kn so tr mk ls who number (written_distinct who may.unended) may t x y stands.tracks)
+        (λ x y. commit_leaves loaded h kn so tr mk ls votes who number (written_distinct who may.unended) may t x y stands.tracks)
         new e
 
   module _ (who : Attempt) (may : MayAbort h who) where
@@ -330,42 +301,30 @@ module _ (t : Table) (loaded : Rows) (h : History) (stands : Stands t loaded h) 
     abort_others a i n = abort_keys false loaded (timestamp loaded) (stamping loaded) h who a stands.obeys i n
 
     pub abort_few : length (front_over who t.accesses (part_of t.accesses who).keys) ≤ t.accesses.waiting
-    abort_few = few_are who may.unended None (Abort who [] ∷ h) (abort_closes h who may) abort_others stands.tracks.waited
+    abort_few = few_are who may.unended None (Abort who [] ∷ h) (abort_closes may) abort_others stands.tracks.waited
 
     pub abort_wakes : map (wake_for t.pasts None (part_of t.accesses who).writes) (front_over who t.accesses (part_of t.accesses who).keys) ≡ (timestamp loaded).abort h who
-    abort_wakes = wakes_are who may.unended None (Abort who [] ∷ h) (abort_closes h who may) abort_others stands.tracks.waited
+    abort_wakes = wakes_are who may.unended None (Abort who [] ∷ h) (abort_closes may) abort_others stands.tracks.waited
 
     pub abort_tracks : (new : Table) → EndsAndWakes who None (front_over who t.accesses (part_of t.accesses who).keys) t new → Tracks loaded (state_of new) (Abort who ((timestamp loaded).abort h who) ∷ h)
     abort_tracks new e =
         let h1 : History = Abort who [] ∷ h in
         let ws : List Wake = map (wake_of loaded h1) (sort by_rising_stamp (filter (goes older_writer h h1 who) (waits h1))) in
-        ended_tracks who may.unended None h1 (abort_closes h who may) abort_others stands.tracks.waited
+        ended_tracks who may.unended None h1 (abort_closes may) abort_others stands.tracks.waited
         (λ woken. Abort who woken ∷ h)
         (known_more loaded h (Abort who []) may so kn)
-        (record { grants_more = refl; waits_less = ap (filter (λ a. not (is_woken ws a))) (sym (abort_closes h who may).waits_kept); ended_same = refl; yeas_same = refl })
+        (record { grants_more = refl; waits_less = ap (filter (λ a. not (is_woken ws a))) (sym (abort_closes may).waits_same); ended_same = refl; yeas_same = refl })
         (record { belows = λ k n. refl; latests = λ k. refl; lasts = λ k. refl })
-        (λ x y. abort_leaves loaded h who may t x y stands.tracks)
+        (λ x y. abort_leaves loaded h votes who may t x y stands.tracks)
         new e
 
 -- a table on which nothing was called
 pub fresh_tracks : (store : Seen) (t : Table) → IsFresh store t → IsLoadedStore store → Tracks (row_in store) (state_of t) []
 fresh_tracks store t f l = record {
-  accesses = no_accesses t.accesses f.accesses;
+  accesses = no_accesses store t.accesses f.accesses l;
   read = λ k. ap (λ (p : Kept). p.read) (f.pasts k);
   waited = λ a i. absurd i;
   kept = λ k v i. absurd (subst (λ (p : Kept). IsIn v p.versions) (f.pasts k) i);
-  writers = λ k. subst (λ l. writers_in l ≤ (past_at t.pasts k).spare) (sym (f.accesses.lines k)) (omega arith);
+  writers = λ k. subst (λ rs. writers_in rs ≤ (past_at t.pasts k).spare) (sym (f.accesses.lines k)) (omega arith);
   there = λ a i. absurd i;
-  tables = λ k row e. tables k (version_at store k) refl row e;
-  versions = λ k. ap (λ x. option_map version_of (version_at x k)) f.store ∙ start_is k (version_at store k) refl;
-  promised = f.promised;
-  room = omega (arith, f.promised);
 }
-  where
-    tables : (k : Key) (v : Option StoredVersion) → version_at store k ≡ v → (row : Row) → option_map (λ (x : StoredVersion). x.row) (version_at store k) ≡ Some row → k.table ≤ 4
-    tables k None is row e = absurd (cc (ap (option_map (λ (x : StoredVersion). x.row)) (sym is) ∙ e))
-    tables k (Some v) is row e = (l k v is).1
-
-    start_is : (k : Key) (v : Option StoredVersion) → version_at store k ≡ v → option_map version_of (version_at store k) ≡ option_map (λ row. record { number = loaded_version; row = row }) (option_map (λ (x : StoredVersion). x.row) (version_at store k))
-    start_is k None is = rw is refl
-    start_is k (Some v) is = rw is (ap (λ n. Some (record { number = n; row = v.row })) (l k v is).0)

@@ -1,6 +1,5 @@
 -- The table tracks the history with one more Prepare, and with the end of an attempt that wakes nobody.
-use Rattle.std.proofs.Common.{◌≡◌, ◌≢◌, ℕ, ◌-◌, ◌≤◌, List, [], ◌∷◌, ◌++◌, filter, Bool, true, false, cond, ltb, ◌&&◌, length, refl, sym, ap, ◌∙◌, subst, ⊎_elim, arith, true≢false, Option, Some, None, option_map}
-use Rattle.std.specs.FinMap.{get}
+use Rattle.std.proofs.Common.{◌≡◌, ◌≢◌, ℕ, ◌-◌, ◌≤◌, List, [], ◌∷◌, ◌++◌, filter, Bool, true, false, cond, ltb, ◌&&◌, refl, sym, ap, ◌∙◌, subst, ⊎_elim, arith, true≢false, Option, Some, None, option_map}
 use Rattle.deneva_base.specs.declared.keys.Key.{Key}
 use Rattle.deneva_base.specs.declared.numbers.Attempt.{Attempt}
 use Rattle.deneva_base.specs.declared.numbers.Number.{Number}
@@ -11,7 +10,6 @@ use Rattle.protocol_rules.specs.Conditions.{MayPrepare, MayCommit, MayAbort, Dis
 use Rattle.protocol_rules.specs.History.{Prepare, Commit, Abort, History, Asked, waits, yeas, IsUnended}
 use Rattle.deneva_base.specs.Keys.{key_eq, number_lt}
 use Rattle.protocol_rules.specs.Latest.{Version, row_for, writes_in, latest, newer}
-use Rattle.protocol_rules.specs.Leaving.{later as later_row, left_in}
 use Rattle.deneva_base.specs.Lists.{IsIn}
 use Rattle.deneva_base.specs.Rows.{Row, Rows}
 use Rattle.protocol_rules.specs.Timestamp.{top_read}
@@ -28,17 +26,22 @@ use Rattle.stamp_lines.specs.declared.requests.Request.{Request}
 use Rattle.stamp_lines.specs.Requests.{without}
 use Rattle.stamp_lines.specs.Standing.{owner_of, waiter_of, Tracks as TracksAccesses}
 use Rattle.stamp_lines.proofs.Asking.{same_tracks}
-use Rattle.stamp_lines.proofs.Ending.{prepared, Closes, commit_closes, abort_closes, requests_left, closed_tracks}
+use Rattle.row_store.specs.Stores.{version_at}
+use Rattle.shelf.specs.Shelves.{held}
+use Rattle.shelf.specs.Keeps.{Apart, Closes}
+use Rattle.shelf.proofs.Closing.{commit_closes, abort_closes}
+use Rattle.shelf.proofs.Keeps.{committed_rows, aborted_rows}
+use Rattle.stamp_lines.proofs.Ending.{prepared, requests_left, closed_tracks}
 use Rattle.stamp_control.specs.declared.table.Table.{Table}
 use Rattle.stamp_control.specs.Picks.{offer, pick}
 use Rattle.stamp_control.specs.Pasts.{Kept, past_at, with_version}
-use Rattle.stamp_control.specs.Changes.{writers_in, any_above, kept_by, kept_left, offered, Promises, MayReserve, Ends}
-use Rattle.stamp_control.specs.Standing.{State, state_of, version_of, IsPast, promised_in, Tracks}
+use Rattle.stamp_control.specs.Changes.{writers_in, any_above, kept_by, kept_left, Promises, MayReserve, Ends}
+use Rattle.shelf.specs.Keeps.{version_of}
+use Rattle.stamp_control.specs.Standing.{State, state_of, IsPast, Tracks}
 use Rattle.stamp_control.proofs.Counting.{writers_less, writers_one_less}
 use Rattle.stamp_control.proofs.Histories.{commit_apart}
 use Rattle.stamp_control.proofs.Keeping.{kept_once, kept_row}
 use Rattle.stamp_control.proofs.Picks.{lt_irrefl, le_lt, lt_not, pick_more}
-use Rattle.stamp_control.proofs.Promising.{unended_test, Apart, promised_less, committed_version}
 
 -- it votes Yes
 pub prepared_tracks : (loaded : Rows) (h : History) (who : Attempt) (bound : Bound) (writes' appends : List Keyed) → MayPrepare h who bound writes' appends → (old new : Table) (lo hi : ℕ) → Promises who writes' appends old new → Tracks loaded (state_of old) h → Tracks loaded (state_of new) (Prepare who bound writes' appends (Yes lo hi) ∷ h)
@@ -52,10 +55,6 @@ prepared_tracks loaded h who bound writes' appends may old new lo hi c t =
       kept = λ k v i. let p = t.kept k v (subst (λ (q : Kept). IsIn v q.versions) (pasts k) i) in record { not_later = p.not_later; same = p.same };
       writers = λ k. let w = t.writers k in let e = ap writers_in (c.accesses.lines k) in let p = ap (λ (q : Kept). q.spare) (pasts k) in omega (arith, w, e, p);
       there = λ a i. ap (λ (p : Kept). p.present) (pasts a.key) ∙ t.there a i;
-      tables = t.tables;
-      versions = λ k. ap (λ m. option_map version_of (get m k)) c.versions ∙ t.versions k;
-      promised = let e = t.promised in let f = c.promised in rw (unended_test h who may.unended) (omega (arith, e, f));
-      room = c.room;
     }
 
 -- what is only reserved changes nothing that is tracked
@@ -63,16 +62,12 @@ pub reserved_tracks : (loaded : Rows) (h : History) (old new : Table) → MayRes
 reserved_tracks loaded h old new c t =
     let pasts : (k : Key) → past_at new.pasts k ≡ past_at old.pasts k = λ k. ap (λ p. past_at p k) c.pasts in
     record {
-      accesses = same_tracks h old.accesses new.accesses c.accesses t.accesses;
+      accesses = same_tracks loaded h old.accesses new.accesses c.accesses t.accesses;
       read = λ k. ap (λ (p : Kept). p.read) (pasts k) ∙ t.read k;
       waited = λ a i. ap (λ (p : Kept). option_map version_of (pick a.stamp p.versions)) (pasts a.key) ∙ t.waited a i;
       kept = λ k v i. t.kept k v (subst (λ (q : Kept). IsIn v q.versions) (pasts k) i);
       writers = λ k. let w = t.writers k in let e = ap writers_in (c.accesses.lines k) in let p = ap (λ (q : Kept). q.spare) (pasts k) in omega (arith, w, e, p);
       there = λ a i. ap (λ (p : Kept). p.present) (pasts a.key) ∙ t.there a i;
-      tables = t.tables;
-      versions = λ k. ap (λ m. option_map version_of (get m k)) c.versions ∙ t.versions k;
-      promised = c.promised ∙ t.promised;
-      room = omega (arith, t.room, c.promised, c.room);
     }
 
 -- rows that are kept leave the rest
@@ -94,42 +89,34 @@ pub record Leaves (loaded : Rows) (h h' : History) (s s' : State) : Type 0 where
   pub waited : (a : Asked) → IsIn a (waits h) → option_map version_of (pick a.stamp (s'.pasts a.key).versions) ≡ Some (below loaded h' a.key a.stamp)
   pub kept : (k : Key) (v : StoredVersion) → IsIn v (s'.pasts k).versions → IsPast loaded h' k v
   pub writers : (k : Key) → writers_in (s'.accesses.requests k) ≤ (s'.pasts k).spare
-  pub versions : (k : Key) → option_map version_of (s'.versions k) ≡ last loaded h' k
+  pub versions : (k : Key) → option_map version_of (version_at s'.accesses.shelf.store k) ≡ last loaded h' k
 
 pub end_tracks : (loaded : Rows) (h h' : History) (who : Attempt) (number : Option Number) → Apart (yeas h) → Closes h h' who → (old new : Table) → Ends who number old new → Leaves loaded h h' (state_of old) (state_of new) → Tracks loaded (state_of old) h → Tracks loaded (state_of new) h'
 end_tracks loaded h h' who number apart c old new e l t =
     let s : State = state_of old in
     let s' : State = state_of new in
-    let rest : (k : Key) → ((s'.pasts k).read ≡ (s.pasts k).read) × ((s'.pasts k).present ≡ (s.pasts k).present) = λ k. subst (λ (p : Kept). (p.read ≡ (s.pasts k).read) × (p.present ≡ (s.pasts k).present)) (sym (e.pasts k)) (left_rest number (s.accesses.holding who).copies (s'.accesses.requests k) k (s.pasts k)) in
+    let rest : (k : Key) → ((s'.pasts k).read ≡ (s.pasts k).read) × ((s'.pasts k).present ≡ (s.pasts k).present) = λ k. subst (λ (p : Kept). (p.read ≡ (s.pasts k).read) × (p.present ≡ (s.pasts k).present)) (sym (e.pasts k)) (left_rest number (held s.accesses.shelf who).copies (s'.accesses.requests k) k (s.pasts k)) in
     record {
-      accesses = closed_tracks h h' who c old.accesses new.accesses t.accesses e.accesses;
+      accesses = closed_tracks loaded h h' who number apart c old.accesses new.accesses t.accesses e.accesses l.versions;
       read = λ k. (rest k).0 ∙ t.read k ∙ sym (l.tops k);
-      waited = λ a i. l.waited a (subst (λ x. IsIn a x) c.waits_kept i);
+      waited = λ a i. l.waited a (subst (λ x. IsIn a x) c.waits_same i);
       kept = l.kept;
       writers = l.writers;
-      there = λ a i. (rest a.key).1 ∙ t.there a (subst (λ x. IsIn a x) c.waits_kept i);
-      tables = t.tables;
-      versions = l.versions;
-      promised =
-          let mine = ap (λ (x : List Keyed). length x) (t.accesses.rows who c.unended).2 in
-          let less = promised_less h h' who (yeas h) c.ended_more c.unended apart in
-          let to : promised_in h' (yeas h') ≡ promised_in h' (yeas h) = ap (promised_in h') c.yeas_same in
-          omega (arith, e.promised, t.promised, mine, less, to);
-      room = omega (arith, t.room, e.promised, e.room);
+      there = λ a i. (rest a.key).1 ∙ t.there a (subst (λ x. IsIn a x) c.waits_same i);
     }
 
-module _ (loaded : Rows) (h : History) (who : Attempt) (may : MayAbort h who) (old new : Table) (e : Ends who None old new) (t : Tracks loaded (state_of old) h) where
+module _ (loaded : Rows) (h : History) (apart : Apart (yeas h)) (who : Attempt) (may : MayAbort h who) (old new : Table) (e : Ends who None old new) (t : Tracks loaded (state_of old) h) where
   pub abort_leaves : Leaves loaded h (Abort who [] ∷ h) (state_of old) (state_of new)
   abort_leaves =
       let s : State = state_of old in
       let s' : State = state_of new in
-      let left = requests_left h (Abort who [] ∷ h) who (abort_closes h who may) old.accesses new.accesses t.accesses e.accesses in
+      let left = requests_left loaded h (Abort who [] ∷ h) who None apart (abort_closes may) old.accesses new.accesses t.accesses e.accesses in
       record {
         tops = λ k. refl;
         waited = λ a i. ap (λ (p : Kept). option_map version_of (pick a.stamp p.versions)) (e.pasts a.key) ∙ t.waited a i;
         kept = λ k v i. let p = t.kept k v (subst (λ (q : Kept). IsIn v q.versions) (e.pasts k) i) in record { not_later = p.not_later; same = p.same };
         writers = λ k. let w = t.writers k in let n = ap writers_in (left k) in let less = writers_less who (s.accesses.requests k) in let p = ap (λ (q : Kept). q.spare) (e.pasts k) in omega (arith, w, n, less, p);
-        versions = λ k. ap (option_map version_of) (e.versions k) ∙ t.versions k;
+        versions = aborted_rows t.accesses.kept e.accesses.shelf;
       }
 
 some_is : {A : Type 0} (x y : A) → Some x ≡ Some y → x ≡ y
@@ -171,9 +158,9 @@ new_past l number row apart = go (number_lt l.number number) refl
     go true e = (lt_irrefl number, λ x. refl)
     go false e = (e, λ x. absurd (apart (ap (λ (n : Number). n.n) x)))
 
-module _ (loaded : Rows) (h : History) (known : Known loaded h) (sound : Sound loaded h) (traced : Traced h) (marked : Marked h) (listed : Listed loaded h) (who : Attempt) (number : Number) (distinct : Distinct (writes_in (yeas h) who)) (may : MayCommit h who number) (old new : Table) (e : Ends who (Some number) old new) (t : Tracks loaded (state_of old) h) where
+module _ (loaded : Rows) (h : History) (known : Known loaded h) (sound : Sound loaded h) (traced : Traced h) (marked : Marked h) (listed : Listed loaded h) (votes : Apart (yeas h)) (who : Attempt) (number : Number) (distinct : Distinct (writes_in (yeas h) who)) (may : MayCommit h who number) (old new : Table) (e : Ends who (Some number) old new) (t : Tracks loaded (state_of old) h) where
   abbrev c : Closes h (Commit who number [] ∷ h) who
-  c = commit_closes loaded h who number known sound may
+  c = commit_closes known sound may
 
   abbrev s : State
   s = state_of old
@@ -187,18 +174,21 @@ module _ (loaded : Rows) (h : History) (known : Known loaded h) (sound : Sound l
   abbrev made : Row → StoredVersion
   made row = record { number = number; row = row }
 
-  closed : TracksAccesses s'.accesses (Commit who number [] ∷ h)
-  closed = closed_tracks h (Commit who number [] ∷ h) who c old.accesses new.accesses t.accesses e.accesses
+  versions : (k : Key) → option_map version_of (version_at new.accesses.shelf.store k) ≡ last loaded (Commit who number [] ∷ h) k
+  versions = committed_rows t.accesses.kept may.unended e.accesses.shelf
+
+  closed : TracksAccesses loaded s'.accesses (Commit who number [] ∷ h)
+  closed = closed_tracks loaded h (Commit who number [] ∷ h) who (Some number) votes c old.accesses new.accesses t.accesses e.accesses versions
 
   -- what is kept of a key that is not written, and of one that is
   past_none : (k : Key) → row_for k ws ≡ None → s'.pasts k ≡ s.pasts k
-  past_none k none = e.pasts k ∙ ap (λ l. kept_by number l (s'.accesses.requests k) k (s.pasts k)) (t.accesses.rows who may.unended).1 ∙ kept_once number ws (s'.accesses.requests k) k (s.pasts k) none
+  past_none k none = e.pasts k ∙ ap (λ l. kept_by number l (s'.accesses.requests k) k (s.pasts k)) (t.accesses.kept.rows who may.unended).1 ∙ kept_once number ws (s'.accesses.requests k) k (s.pasts k) none
 
   past_some : (k : Key) (row : Row) → row_for k ws ≡ Some row → s'.pasts k ≡ cond (any_above number.n (s'.accesses.requests k)) (with_version (record { number = number; row = row }) (s.pasts k)) (s.pasts k)
-  past_some k row some = e.pasts k ∙ ap (λ l. kept_by number l (s'.accesses.requests k) k (s.pasts k)) (t.accesses.rows who may.unended).1 ∙ kept_row number ws (s'.accesses.requests k) k (s.pasts k) row distinct some
+  past_some k row some = e.pasts k ∙ ap (λ l. kept_by number l (s'.accesses.requests k) k (s.pasts k)) (t.accesses.kept.rows who may.unended).1 ∙ kept_row number ws (s'.accesses.requests k) k (s.pasts k) row distinct some
 
   waits_on : (a : Asked) → IsIn a (waits h) → IsIn (waiter_of a) (s'.accesses.requests a.key)
-  waits_on a i = closed.queued a (subst (λ l. IsIn a l) (sym c.waits_kept) i)
+  waits_on a i = closed.queued a (subst (λ l. IsIn a l) (sym c.waits_same) i)
 
   waited : (a : Asked) → IsIn a (waits h) → (r : Option Row) → row_for a.key ws ≡ r → option_map version_of (pick a.stamp (s'.pasts a.key).versions) ≡ Some (greatest (start loaded a.key) (filter (λ (v : Version). ltb v.number.n a.stamp) (written_as number r ++ written h a.key)))
   waited a i None none = ap (λ (p : Kept). option_map version_of (pick a.stamp p.versions)) (past_none a.key none) ∙ t.waited a i
@@ -240,7 +230,7 @@ module _ (loaded : Rows) (h : History) (known : Known loaded h) (sound : Sound l
       go false j = old_one j
 
   writers_left : (k : Key) → s'.accesses.requests k ≡ without who (s.accesses.requests k)
-  writers_left k = requests_left h (Commit who number [] ∷ h) who c old.accesses new.accesses t.accesses e.accesses k
+  writers_left k = requests_left loaded h (Commit who number [] ∷ h) who (Some number) votes c old.accesses new.accesses t.accesses e.accesses k
 
   writers : (k : Key) (r : Option Row) → row_for k ws ≡ r → writers_in (s'.accesses.requests k) ≤ (s'.pasts k).spare
   writers k None none =
@@ -267,13 +257,10 @@ module _ (loaded : Rows) (h : History) (known : Known loaded h) (sound : Sound l
 
   pub commit_leaves : Leaves loaded h (Commit who number [] ∷ h) (state_of old) (state_of new)
   commit_leaves =
-      let rows = t.accesses.rows who may.unended in
       record {
         tops = λ k. refl;
         waited = λ a i. waited a i (row_for a.key ws) refl;
         kept = λ k v i. let p = kept k v i (row_for k ws) refl in record { not_later = p.0; same = p.1 };
         writers = λ k. writers k (row_for k ws) refl;
-        versions = λ k.
-            ap (option_map version_of) (e.versions k ∙ ap (λ l. offered number (s.accesses.holding who).appends k (offered number l k (s.versions k))) rows.0 ∙ ap (λ as'. offered number as' k (offered number (writes_in (yeas h) who) k (s.versions k))) rows.2)
-            ∙ committed_version number (yeas h) who k (s.versions k) ∙ ap (λ v. later_row v number (row_for k (left_in (yeas h) who))) (t.versions k);
+        versions = versions;
       }

@@ -11,7 +11,7 @@ use Rattle.deneva_base.specs.Rows.{Row}
 use Rattle.deneva_base.proofs.Membership.{key_tells}
 use Rattle.row_store.proofs.Tables.{same_key-key_eq}
 use Rattle.stamp_lines.specs.declared.requests.Request.{Request}
-use Rattle.stamp_lines.specs.Tables.{same_key}
+use Rattle.key_table.specs.Keys.{same_key}
 use Rattle.stamp_control.specs.Pasts.{Kept, with_version}
 use Rattle.stamp_control.specs.Changes.{any_above, kept_by}
 

@@ -21,7 +21,7 @@ use Rattle.stamp_lines.specs.declared.accesses.Accesses.{Accesses}
 use Rattle.stamp_lines.specs.Requests.{is_stopped, first_writer, reaches}
 use Rattle.stamp_lines.specs.Standing.{Seen, seen_of, IsOwner, IsWaiter, Tracks}
 use Rattle.stamp_lines.specs.Tables.{requests_at, part_of}
-use Rattle.stamp_lines.proofs.Ending.{Closes}
+use Rattle.shelf.specs.Keeps.{Closes}
 use Rattle.stamp_lines.proofs.Fronts.{asked_for, waiting_in, stopped_is, free_is, by_keys, by_keys_is}
 use Rattle.stamp_lines.proofs.Waking.{to_waiter, length_map, length_sort}
 use Rattle.stamp_lines.proofs.Calls.{length_filter}
@@ -46,11 +46,11 @@ module _ (loaded : Rows) (h : History) (known : Known loaded h) (traced : Traced
   holder_above gs h' f b i = let g = held_from h' (grants h') b i in ap (λ (x : Asked). ltb 0 x.stamp) g.3 ∙ grant_above g.0 (f g.0 g.1)
 
   -- an access that asks is stopped by one that holds
-  pub is_stopped_by : (s : Seen) → Tracks s h → (a : Asked) → list_any (older_writer a) (holders h) ≡ is_stopped 0 a.stamp (s.requests a.key)
+  pub is_stopped_by : (s : Seen) → Tracks loaded s h → (a : Asked) → list_any (older_writer a) (holders h) ≡ is_stopped 0 a.stamp (s.requests a.key)
   is_stopped_by s t a = stopped_is h s t older_writer a 0 (λ b i. agrees a b (holder_above (grants h) h (λ g j. j) b i))
 
   -- the end of an attempt: h' is h with it, before it wakes anyone
-  module _ (h' : History) (who : Attempt) (c : Closes h h' who) (distinct : Distinct (waits h)) (others : (a : Asked) → IsIn a (waits h) → holds h who a.key ≡ false → list_any (older_writer a) (holders h') ≡ true) (a : Accesses) (t : Tracks (seen_of a) h) where
+  module _ (h' : History) (who : Attempt) (c : Closes h h' who) (distinct : Distinct (waits h)) (others : (a : Asked) → IsIn a (waits h) → holds h who a.key ≡ false → list_any (older_writer a) (holders h') ≡ true) (a : Accesses) (t : Tracks loaded (seen_of a) h) where
     abbrev q : Asked → Bool
     q x = goes_by_rule older_writer h h' who x
 
@@ -105,12 +105,12 @@ module _ (loaded : Rows) (h : History) (known : Known loaded h) (traced : Traced
         let r = and_parts (attempt_eq g.0.who who) (key_eq g.0.key x.key) g.2 in
         let mine : g.0.who ≡ who = (attempt_decides g.0.who who).0 r.0 in
         subst (λ z. IsIn z (part_of a who).keys) ((key_decides g.0.key x.key).0 r.1)
-        (subst (λ z. IsIn g.0.key (part_of a z).keys) mine (t.noted g.0 g.1 (subst (λ z. IsUnended h z) (sym mine) c.unended)).0)
+        (subst (λ z. IsIn g.0.key (part_of a z).keys) mine (t.kept.noted g.0 g.1 (subst (λ z. IsUnended h z) (sym mine) c.unended)))
 
     pub front_table : front_over who a (part_of a who).keys ≡ map to_waiter (sort by_rising_stamp (filter (goes_by_rule older_writer h h' who) (waits h)))
     front_table =
         fronts_are (part_of a who).keys
-        ∙ ap (map to_waiter) (by_keys_is loaded h known distinct (seen_of a) t (goes_by_rule older_writer h h' who) (part_of a who).keys (t.keys_rise who) (λ x i e. key_of x e))
+        ∙ ap (map to_waiter) (by_keys_is loaded h known distinct (seen_of a) t (goes_by_rule older_writer h h' who) (part_of a who).keys (t.kept.rising who) (λ x i e. key_of x e))
 
     pub few_woken : length (front_over who a (part_of a who).keys) ≤ a.waiting
     few_woken =

@@ -6,9 +6,7 @@ pub mod Keeping
 pub mod Histories
 pub mod Counting
 pub mod Asking
-pub mod Promising
 pub mod Ending
 pub mod Waking
 pub mod Letting
 pub mod Calls
-pub mod Outcomes

@@ -3,8 +3,8 @@ use Rattle.std.proofs.Common.{◌≡◌, ◌≢◌, ℕ, suc, ◌+◌, ◌<◌, 
 use Rattle.std.proofs.Math.Seq.{drop-cons}
 use Rattle.std.specs.Map.{lookup}
 use Rattle.deneva_base.specs.declared.keys.Key.{Key}
-use Rattle.stamp_lines.specs.Tables.{same_key}
-use Rattle.stamp_lines.proofs.Places.{same_tells}
+use Rattle.key_table.specs.Keys.{same_key}
+use Rattle.key_table.proofs.Places.{same_tells}
 use Rattle.stamp_lines.specs.declared.lines.Waiter.{Waiter}
 use Rattle.stamp_control.specs.declared.pasts.Past.{Past}
 use Rattle.stamp_control.specs.Pasts.{Kept, past_of, past_in, granted_at, all_granted_at, Wider}

@@ -1,7 +1,7 @@
 -- The table tracks the history whose last call woke these waiters, and what is left of it when versions are dropped.
-use Rattle.std.proofs.Common.{◌≡◌, ℕ, max, ◌+◌, List, [], ◌∷◌, ◌++◌, map, filter, Bool, true, cond, ◌&&◌, length, refl, sym, ap, ap₂, ◌∙◌, subst, inl, inr, arith, Some, option_map}
+use Rattle.std.proofs.Common.{◌≡◌, ℕ, max, List, [], ◌∷◌, ◌++◌, map, filter, Bool, true, cond, ◌&&◌, refl, sym, ap, ap₂, ◌∙◌, subst, inl, inr, arith, Some, option_map}
 use Rattle.deneva_base.specs.declared.keys.Key.{Key}
-use Rattle.protocol_rules.specs.History.{History, Asked, Grant, Yea, asks, grants, waits, yeas, ended, grant_of, grant_of_wake}
+use Rattle.protocol_rules.specs.History.{History, Asked, Grant, asks, grants, waits, grant_of, grant_of_wake}
 use Rattle.deneva_base.specs.Keys.{key_eq}
 use Rattle.protocol_rules.specs.Latest.{Version, latest}
 use Rattle.deneva_base.specs.Lists.{IsIn, greatest_by, sort}
@@ -11,25 +11,24 @@ use Rattle.deneva_base.specs.Rows.{Rows}
 use Rattle.protocol_rules.specs.Timestamp.{top_read}
 use Rattle.protocol_rules.specs.Versions.{below}
 use Rattle.protocol_rules.specs.Waiting.{wake_of}
-use Rattle.std.specs.List.{list_any}
-use Rattle.deneva_base.specs.Keys.{attempt_eq}
 use Rattle.protocol_rules.proofs.Known.{Known}
 use Rattle.protocol_rules.proofs.Traced.{asked_found}
 use Rattle.deneva_base.proofs.Membership.{filter_in, key_decides}
 use Rattle.protocol_rules.proofs.Sorts.{sort_in}
-use Rattle.row_store.specs.Stores.{version_at}
 use Rattle.row_store.proofs.Tables.{same_key-key_eq}
 use Rattle.control_core.specs.Leaving.{last}
 use Rattle.stamp_lines.specs.declared.lines.Waiter.{Waiter}
 use Rattle.stamp_lines.specs.declared.accesses.Accesses.{Accesses}
 use Rattle.stamp_lines.specs.Standing.{seen_of, waiter_of, Tracks as TracksAccesses}
-use Rattle.stamp_lines.specs.Tables.{requests_at, same_key}
+use Rattle.key_table.specs.Keys.{same_key}
+use Rattle.stamp_lines.specs.Tables.{requests_at}
 use Rattle.stamp_lines.proofs.Waking.{to_waiter, Wakens, still_waits, wake_tracks}
 use Rattle.stamp_control.specs.declared.table.Table.{Table}
 use Rattle.stamp_control.specs.Picks.{pick}
 use Rattle.stamp_control.specs.Pasts.{Kept, granted_at, all_granted_at}
 use Rattle.stamp_control.specs.Changes.{writers_in, Wakes, Trimmed}
-use Rattle.stamp_control.specs.Standing.{State, state_of, version_of, IsPastOf, promised_in, Tracks}
+use Rattle.shelf.specs.Keeps.{version_of}
+use Rattle.stamp_control.specs.Standing.{State, state_of, IsPastOf, Tracks}
 use Rattle.stamp_control.proofs.Asking.{granted_versions, granted_spare, granted_present, granted_read}
 use Rattle.stamp_control.proofs.Counting.{writers_granted}
 
@@ -62,10 +61,6 @@ greatest_both : {A B : Type 0} (f : B → ℕ) (g : A → B) (h : A → ℕ) (as
 greatest_both f g h [] bs e = omega arith
 greatest_both f g h (a ∷ as') bs e = let one = e a in let rest = greatest_both f g h as' bs e in omega (arith, one, rest)
 
-promised_same : (h h' : History) (ys : List Yea) → ended h' ≡ ended h → promised_in h' ys ≡ promised_in h ys
-promised_same h h' [] e = refl
-promised_same h h' (y ∷ ys) e = ap₂ (λ l n. cond (list_any (attempt_eq y.who) l) 0 (length y.appends) + n) e (promised_same h h' ys e)
-
 -- what wakes leave of a history
 pub record Keeps (loaded : Rows) (h1 h2 : History) : Type 0 where
   pub belows : (k : Key) (n : ℕ) → below loaded h2 k n ≡ below loaded h1 k n
@@ -97,7 +92,7 @@ module _ (loaded : Rows) (h1 h2 : History) (known : Known loaded h1) (q : Asked 
       let still : (a : Asked) → IsIn a (waits h2) → IsIn a (waits h1) = λ a i. (still_waits (wake_of loaded h1) (λ b. refl) (λ b. refl) loaded h1 h2 known q w a i).0 in
       let versions : (k : Key) → (s'.pasts k).versions ≡ (s.pasts k).versions = λ k. ap (λ (p : Kept). p.versions) (c.pasts k) ∙ all_versions ws k (s.pasts k) in
       record {
-        accesses = wake_tracks (wake_of loaded h1) (λ b. refl) (λ b. refl) loaded h1 h2 known q w old.accesses new.accesses t.accesses c.accesses;
+        accesses = wake_tracks (wake_of loaded h1) (λ b. refl) (λ b. refl) loaded h1 h2 known q w keeps.lasts old.accesses new.accesses t.accesses c.accesses;
         read = λ k.
             ap (λ (p : Kept). p.read) (c.pasts k)
             ∙ all_read as' k (s.pasts k) (λ a i e. subst (λ z. (s.pasts z).present ≡ true) e (t.there a (less a i)))
@@ -113,10 +108,6 @@ module _ (loaded : Rows) (h1 h2 : History) (known : Known loaded h1) (q : Asked 
             let p = ap (λ (x : Kept). x.spare) (c.pasts k) ∙ all_spare ws k (s.pasts k) in
             omega (arith, n, m, p);
         there = λ a i. ap (λ (p : Kept). p.present) (c.pasts a.key) ∙ all_present ws a.key (s.pasts a.key) (t.there a (still a i));
-        tables = t.tables;
-        versions = λ k. ap (λ x. option_map version_of (version_at x k)) c.store ∙ t.versions k ∙ sym (keeps.lasts k);
-        promised = c.promised ∙ t.promised ∙ sym (promised_same h1 h2 (yeas h1) w.ended_same) ∙ ap (promised_in h2) (sym w.yeas_same);
-        room = let e = ap (λ x. x.spare) c.store in omega (arith, t.room, c.promised, e);
       }
 
 -- versions that nobody would read are gone
@@ -124,7 +115,7 @@ pub trimmed_tracks : (loaded : Rows) (h : History) (old new : Table) → Trimmed
 trimmed_tracks loaded h old new c t =
     let s : State = state_of old in
     let s' : State = state_of new in
-    let accesses : TracksAccesses (seen_of new.accesses) h = subst (λ (x : Accesses). TracksAccesses (seen_of x) h) (sym c.accesses) t.accesses in
+    let accesses : TracksAccesses loaded (seen_of new.accesses) h = subst (λ (x : Accesses). TracksAccesses loaded (seen_of x) h) (sym c.accesses) t.accesses in
     record {
       accesses = accesses;
       read = λ k. (c.pasts k).read ∙ t.read k;
@@ -132,8 +123,4 @@ trimmed_tracks loaded h old new c t =
       kept = λ k v i. t.kept k v ((c.pasts k).less v i);
       writers = λ k. let n = t.writers k in let m = ap (λ (x : Accesses). writers_in (requests_at x k)) c.accesses in let p = (c.pasts k).spare in omega (arith, n, m, p);
       there = λ a i. (c.pasts a.key).present ∙ t.there a i;
-      tables = t.tables;
-      versions = λ k. ap (λ x. option_map version_of (version_at x k)) c.store ∙ t.versions k;
-      promised = c.promised ∙ t.promised;
-      room = let e = ap (λ x. x.spare) c.store in omega (arith, t.room, c.promised, e);
     }

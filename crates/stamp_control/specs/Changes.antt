@@ -1,5 +1,5 @@
 -- What the calls of a table answer and change.
-use Rattle.std.specs.Prelude.{◌≡◌, ℕ, ◌+◌, ◌≤◌, List, [], ◌∷◌, length, Bool, true, ◌&&◌, ltb, cond, Option, Some, None}
+use Rattle.std.specs.Prelude.{◌≡◌, ℕ, ◌+◌, List, [], ◌∷◌, Bool, true, ◌&&◌, ltb, cond, Option, Some, None}
 use Rattle.std.specs.List.{list_any}
 use Rattle.deneva_base.specs.declared.keys.Key.{Key}
 use Rattle.deneva_base.specs.declared.keys.Mode.{Mode}
@@ -14,7 +14,7 @@ use Rattle.deneva_base.specs.Keys.{key_eq, loaded_version}
 use Rattle.deneva_base.specs.Modes.{reads, writes}
 use Rattle.protocol_rules.specs.Latest.{row_for}
 use Rattle.row_store.specs.declared.versions.Version.{Version}
-use Rattle.row_store.specs.Stores.{Seen, version_at, newest}
+use Rattle.row_store.specs.Stores.{Seen, version_at}
 use Rattle.stamp_lines.specs.declared.requests.Request.{Request}
 use Rattle.stamp_lines.specs.declared.lines.Waiter.{Waiter}
 use Rattle.stamp_lines.specs.Tables.{requests_at, part_of}
@@ -23,11 +23,6 @@ use Rattle.stamp_control.specs.declared.pasts.Pasts.{Pasts}
 use Rattle.stamp_control.specs.declared.table.Table.{Table}
 use Rattle.stamp_control.specs.Picks.{offer, pick}
 use Rattle.stamp_control.specs.Pasts.{Kept, no_past, past_at, with_version, with_latest, granted_at, all_granted_at, SetsPast, Widens, HasRoom, Trims}
-
--- what an access reads where its key has this version
-abbrev pub read_in : Mode → Option Version → List Cell × Number
-read_in mode None = ([], loaded_version)
-read_in mode (Some v) = cond (reads mode) (v.row, v.number) ([], loaded_version)
 
 -- the number of the key's row
 abbrev pub written_in : Option Version → ℕ
@@ -55,11 +50,9 @@ kept_by number [] rs key p = p
 kept_by number (w ∷ ws) rs key p = kept_by number ws rs key (cond (key_eq w.key key && any_above number.n rs) (with_version (record { number = number; row = w.row }) p) p)
 
 -- a table of this store, on which nothing was called
-pub record IsFresh (s : Seen) (t : Table) : Type 0 where
-  pub store : t.store ≡ s
-  pub accesses : AreFresh t.accesses
+pub record IsFresh (store : Seen) (t : Table) : Type 0 where
+  pub accesses : AreFresh store t.accesses
   pub pasts : (key : Key) → past_at t.pasts key ≡ no_past
-  pub promised : t.promised ≡ 0
 
 -- what is kept, with room for so many more versions of the key
 pub record Reserves (key : Key) (count : ℕ) (old new : Pasts) : Type 0 where
@@ -68,12 +61,10 @@ pub record Reserves (key : Key) (count : ℕ) (old new : Pasts) : Type 0 where
 
 -- an access is granted
 pub record Grants (key : Key) (asked : Request) (old new : Table) : Type 0 where
-  pub store : new.store ≡ old.store
   pub accesses : Adds key asked old.accesses new.accesses
   pub between : Pasts
   pub reserves : Reserves key (writers_in (requests_at old.accesses key) + 1) old.pasts between
   pub pasts : (k : Key) → past_at new.pasts k ≡ granted_at key asked.stamp asked.mode k (past_at between k)
-  pub promised : new.promised ≡ old.promised
 
 -- the request waits
 abbrev pub waiting : Request → Request
@@ -86,45 +77,25 @@ version_or (Some v) = v
 
 -- an access waits
 pub record LetsWait (key : Key) (asked : Request) (old new : Table) : Type 0 where
-  pub store : new.store ≡ old.store
   pub accesses : Adds key (waiting asked) old.accesses new.accesses
   pub between : Pasts
   pub reserves : Reserves key (writers_in (requests_at old.accesses key) + 2) old.pasts between
-  pub pasts : SetsPast between key (with_latest asked.stamp (version_or (version_at old.store key)) (past_at between key)) new.pasts
-  pub promised : new.promised ≡ old.promised
+  pub pasts : SetsPast between key (with_latest asked.stamp (version_or (version_at old.accesses.shelf.store key)) (past_at between key)) new.pasts
 
 -- at most there is more room for versions
 pub record MayWiden (old new : Table) : Type 0 where
-  pub store : new.store ≡ old.store
   pub accesses : Same old.accesses new.accesses
   pub pasts : Widens old.pasts new.pasts
-  pub promised : new.promised ≡ old.promised
 
--- the attempt's rows are kept, with room for those that it appends
+-- the attempt's rows are kept
 pub record Promises (who : Attempt) (writes appends : List Keyed) (old new : Table) : Type 0 where
-  pub versions : new.store.versions ≡ old.store.versions
   pub accesses : Promised who writes appends old.accesses new.accesses
   pub pasts : new.pasts ≡ old.pasts
-  pub promised : new.promised ≡ old.promised + length appends
-  pub room : new.promised ≤ new.store.spare
 
 -- at most the store has more room
 pub record MayReserve (old new : Table) : Type 0 where
-  pub versions : new.store.versions ≡ old.store.versions
   pub accesses : Same old.accesses new.accesses
   pub pasts : new.pasts ≡ old.pasts
-  pub promised : new.promised ≡ old.promised
-  pub room : old.store.spare ≤ new.store.spare
-
--- what a key has after these rows came under a number
-abbrev pub offered : Number → List Keyed → Key → Option Version → Option Version
-offered number [] key v = v
-offered number (r ∷ rows) key v = offered number rows key (cond (key_eq r.key key) (newest v (record { number = number; row = r.row })) v)
-
--- the version of a key after the attempt ended
-abbrev pub row_left : Option Number → List Keyed → List Keyed → Key → Option Version → Option Version
-row_left None writes appends key v = v
-row_left (Some number) writes appends key v = offered number appends key (offered number writes key v)
 
 -- what is kept of a key after the attempt ended
 abbrev pub kept_left : Option Number → List Keyed → List Request → Key → Kept → Kept
@@ -133,25 +104,18 @@ kept_left (Some number) copies rs key p = kept_by number copies rs key p
 
 -- the attempt ended
 pub record Ends (who : Attempt) (number : Option Number) (old new : Table) : Type 0 where
-  pub versions : (key : Key) → version_at new.store key ≡ row_left number (part_of old.accesses who).writes (part_of old.accesses who).appends key (version_at old.store key)
-  pub accesses : Ended who old.accesses new.accesses
+  pub accesses : Ended who number old.accesses new.accesses
   pub pasts : (key : Key) → past_at new.pasts key ≡ kept_left number (part_of old.accesses who).copies (requests_at new.accesses key) key (past_at old.pasts key)
-  pub promised : new.promised + length (part_of old.accesses who).appends ≡ old.promised
-  pub room : old.store.spare ≤ new.store.spare + length (part_of old.accesses who).appends
 
 -- these accesses are granted
 pub record Wakes (front : List Waiter) (old new : Table) : Type 0 where
-  pub store : new.store ≡ old.store
   pub accesses : Woken front old.accesses new.accesses
   pub pasts : (key : Key) → past_at new.pasts key ≡ all_granted_at front key (past_at old.pasts key)
-  pub promised : new.promised ≡ old.promised
 
 -- what nobody who waits would read is gone
 pub record Trimmed (old new : Table) : Type 0 where
-  pub store : new.store ≡ old.store
   pub accesses : new.accesses ≡ old.accesses
   pub pasts : (key : Key) → Trims (requests_at new.accesses key) (past_at old.pasts key) (past_at new.pasts key)
-  pub promised : new.promised ≡ old.promised
 
 -- all three, one after another
 pub record EndsAndWakes (who : Attempt) (number : Option Number) (front : List Waiter) (old new : Table) : Type 0 where

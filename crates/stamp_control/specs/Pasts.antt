@@ -10,7 +10,7 @@ use Rattle.deneva_base.specs.Modes.{reads}
 use Rattle.row_store.specs.declared.versions.Version.{Version}
 use Rattle.stamp_lines.specs.declared.requests.Request.{Request}
 use Rattle.stamp_lines.specs.declared.lines.Waiter.{Waiter}
-use Rattle.stamp_lines.specs.Tables.{same_key}
+use Rattle.key_table.specs.Keys.{same_key}
 use Rattle.stamp_control.specs.declared.pasts.Past.{Past}
 use Rattle.stamp_control.specs.declared.pasts.Pasts.{Pasts}
 use Rattle.stamp_control.specs.Picks.{pick}

@@ -1,18 +1,17 @@
 -- What a table stands for: a history, of which it has for each key the last version, the unended accesses, the greatest stamp
 -- of one that read, and the versions that those who wait would read.
-use Rattle.std.specs.Prelude.{◌≡◌, ℕ, ◌+◌, ◌≤◌, List, [], ◌∷◌, length, true, false, cond, Option, Some, option_map}
+use Rattle.std.specs.Prelude.{◌≡◌, ◌≤◌, true, false, Some, option_map}
 use Rattle.deneva_base.specs.declared.keys.Key.{Key}
 use Rattle.deneva_base.specs.Lists.{IsIn}
 use Rattle.deneva_base.specs.Keys.{number_lt}
-use Rattle.deneva_base.specs.Rows.{Row, Rows}
-use Rattle.protocol_rules.specs.History.{History, Asked, Yea, waits, yeas}
-use Rattle.protocol_rules.specs.Latest.{Version, latest, has_ended}
+use Rattle.deneva_base.specs.Rows.{Rows}
+use Rattle.protocol_rules.specs.History.{History, Asked, waits}
+use Rattle.protocol_rules.specs.Latest.{Version, latest}
 use Rattle.protocol_rules.specs.Rules.{Obeys}
 use Rattle.protocol_rules.specs.Timestamp.{timestamp, top_read}
 use Rattle.protocol_rules.specs.Versions.{below}
 use Rattle.row_store.specs.declared.versions.Version.{Version as StoredVersion}
-use Rattle.row_store.specs.Stores.{version_at}
-use Rattle.control_core.specs.Leaving.{last}
+use Rattle.shelf.specs.Keeps.{version_of}
 use Rattle.stamp_lines.specs.Standing.{Seen, seen_of, Tracks as TracksAccesses}
 use Rattle.stamp_control.specs.declared.table.Table.{Table}
 use Rattle.stamp_control.specs.Picks.{pick}
@@ -23,15 +22,9 @@ use Rattle.stamp_control.specs.Changes.{writers_in}
 pub record State : Type 0 where
   pub accesses : Seen
   pub pasts : Key → Kept
-  pub versions : Key → Option StoredVersion
-  pub spare : ℕ
-  pub promised : ℕ
 
 abbrev pub state_of : Table → State
-state_of t = record { accesses = seen_of t.accesses; pasts = past_at t.pasts; versions = version_at t.store; spare = t.store.spare; promised = t.promised }
-
-abbrev pub version_of : StoredVersion → Version
-version_of v = record { number = v.number; row = v.row }
+state_of t = record { accesses = seen_of t.accesses; pasts = past_at t.pasts }
 
 -- the version is this one, or has a smaller number; this one is the key's latest
 pub record IsPastOf (l : Version) (v : StoredVersion) : Type 0 where
@@ -41,23 +34,14 @@ pub record IsPastOf (l : Version) (v : StoredVersion) : Type 0 where
 abbrev pub IsPast : Rows → History → Key → StoredVersion → Type 0
 IsPast loaded h key v = IsPastOf (latest loaded h key) v
 
--- how many rows are appended by attempts that voted Yes and have not ended
-abbrev pub promised_in : History → List Yea → ℕ
-promised_in h [] = 0
-promised_in h (y ∷ ys) = cond (has_ended h y.who) 0 (length y.appends) + promised_in h ys
-
 -- the table has what the history gives
 pub record Tracks (loaded : Rows) (s : State) (h : History) : Type 0 where
-  pub accesses : TracksAccesses s.accesses h
+  pub accesses : TracksAccesses loaded s.accesses h
   pub read : (key : Key) → (s.pasts key).read ≡ top_read h key
   pub waited : (a : Asked) → IsIn a (waits h) → option_map version_of (pick a.stamp (s.pasts a.key).versions) ≡ Some (below loaded h a.key a.stamp)
   pub kept : (key : Key) (v : StoredVersion) → IsIn v (s.pasts key).versions → IsPast loaded h key v
   pub writers : (key : Key) → writers_in (s.accesses.requests key) ≤ (s.pasts key).spare
   pub there : (a : Asked) → IsIn a (waits h) → (s.pasts a.key).present ≡ true
-  pub tables : (key : Key) (row : Row) → loaded key ≡ Some row → key.table ≤ 4
-  pub versions : (key : Key) → option_map version_of (s.versions key) ≡ last loaded h key
-  pub promised : s.promised ≡ promised_in h (yeas h)
-  pub room : s.promised ≤ s.spare
 
 -- the table stands for a history that obeys the rule
 pub record Stands (t : Table) (loaded : Rows) (h : History) : Type 0 where

@@ -79,7 +79,7 @@ impl Control for Stamps {
     }
 
     fn rows(&self) -> Result<RowList, NoMemory> {
-        self.table.store.rows_in_order()
+        self.table.accesses.shelf().rows_in_order()
     }
 
     ghost obeys = { λ s loaded h stands. stands.obeys };

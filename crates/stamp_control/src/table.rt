@@ -13,10 +13,11 @@ ghost use Rattle.stamp_lines.specs.declared.requests.Request.{Request};
 ghost use Rattle.deneva_base.specs.Modes.{reads};
 ghost use Rattle.stamp_lines.specs.Requests.{is_stopped};
 ghost use Rattle.stamp_lines.specs.Tables.{requests_at, part_of, waiting_of};
+ghost use Rattle.shelf.specs.Shelves.{read_in};
 ghost use Rattle.stamp_control.specs.Picks.{pick};
 ghost use Rattle.stamp_control.specs.Pasts.{past_at};
 ghost use Rattle.stamp_control.specs.Fronts.{front_over};
-ghost use Rattle.stamp_control.specs.Changes.{read_in, written_in, refusal_in, writers_in, any_above, kept_by, version_or_empty, pick_after, wake_for, offered, IsFresh, Grants, LetsWait, MayWiden, Promises, MayReserve, Ends, Wakes, EndsAndWakes};
+ghost use Rattle.stamp_control.specs.Changes.{written_in, refusal_in, writers_in, any_above, kept_by, version_or_empty, pick_after, wake_for, IsFresh, Grants, LetsWait, MayWiden, Promises, MayReserve, Ends, Wakes, EndsAndWakes};
 
 use crate::fronts::{front_of, is_idle};
 use crate::pasts::{Pasts, is_newer};
@@ -26,16 +27,14 @@ use deneva_base::{
     Woken,
 };
 use row_store::{Store, Version};
+use shelf::{Ended, find_row};
 use stamp_lines::{Accesses, Request, Waiter};
 
-/// The rows, the accesses, and what is kept of each key, with the number of appended rows for which there is room in the
-/// store.
+/// The rows with the accesses to them, and what is kept of each key.
 #[derive(Drop)]
 pub(crate) struct Table {
-    pub store: Store,
     pub accesses: Accesses,
     pub pasts: Pasts,
-    pub promised: usize,
 }
 
 impl Table {
@@ -44,18 +43,16 @@ impl Table {
     {
         let alloc = store.allocator();
         Table {
-            store,
-            accesses: Accesses::new(alloc),
+            accesses: Accesses::new(store),
             pasts: Pasts::new(alloc),
-            promised: 0,
         }
     }
 
     /// The number of the key's row.
     fn written(&self, key: Key) -> u64
-        ensures { result ≡ written_in (version_at self.now.store key) }
+        ensures { result ≡ written_in (version_at self.now.accesses.shelf.store key) }
     {
-        match self.store.version(key) {
+        match self.accesses.shelf().version(key) {
             Some(version) => version.number.n,
             None => 0,
         }
@@ -63,7 +60,7 @@ impl Table {
 
     /// Why an access comes too late for its stamp, if it does.
     pub fn refusal(&self, stamp: u64, key: Key, mode: Mode) -> Option<Cause>
-        ensures { result ≡ refusal_in stamp key mode (written_in (version_at self.now.store key)) (past_at self.now.pasts key).read }
+        ensures { result ≡ refusal_in stamp key mode (written_in (version_at self.now.accesses.shelf.store key)) (past_at self.now.pasts key).read }
     {
         let written = self.written(key);
         if mode.is_reading() && stamp < written {
@@ -86,19 +83,6 @@ impl Table {
         mode.is_reading() && self.accesses.is_stopped(key, 0, stamp)
     }
 
-    /// What an access is granted: the row of its key with its number, and no cells for a Put.
-    fn read(&self, key: Key, mode: Mode) -> Result<(Row, Number), NoMemory>
-        ensures { IfOk result (λ r. r ≡ read_in mode (version_at self.now.store key)) }
-    {
-        match self.store.version(key) {
-            Some(version) if mode.is_reading() => Ok((version.row.share()?, version.number)),
-            _ => {
-                let number = Number { n: 0, id: TxnId(0) };
-                Ok((Row::empty(self.store.allocator())?, number))
-            }
-        }
-    }
-
     /// How many accesses to the key write, granted or waiting.
     fn writers(&self, key: Key) -> usize
         ensures count { result ≡ writers_in (requests_at self.now.accesses key) }
@@ -111,11 +95,11 @@ impl Table {
     pub fn grant(&mut self, key: Key, asked: Request) -> Result<Answer, NoMemory>
         requires once { (r : Request) → IsIn r (requests_at self.old.accesses key) → r.who ≢ asked.who }
         requires few { waiting_of self.old.accesses < 2 ^ 63 }
-        ensures answer { IfOk result (λ a. a ≡ Granted (read_in asked.mode (version_at self.old.store key)).0 (read_in asked.mode (version_at self.old.store key)).1 0) }
+        ensures answer { IfOk result (λ a. a ≡ Granted (read_in asked.mode (version_at self.old.accesses.shelf.store key)).0 (read_in asked.mode (version_at self.old.accesses.shelf.store key)).1 0) }
         ensures ok { OnOk result (Grants key asked self.old self.new) }
         ensures err { OnErr result (MayWiden self.old self.new) }
     {
-        let (row, version) = self.read(key, asked.mode)?;
+        let (row, version) = self.accesses.shelf().read(key, asked.mode)?;
         let room = self.writers(key) + 1;
         self.pasts.reserve(key, room)?;
         self.accesses.add(key, asked)?;
@@ -135,7 +119,7 @@ impl Table {
         ensures ok { OnOk result (LetsWait key asked self.old self.new) }
         ensures err { OnErr result (MayWiden self.old self.new) }
     {
-        let (row, number) = self.read(key, Mode::Read)?;
+        let (row, number) = self.accesses.shelf().read(key, Mode::Read)?;
         let asked = Request {
             waits: true,
             ..asked
@@ -146,16 +130,6 @@ impl Table {
         self.pasts
             .keep_latest(key, asked.stamp, Version { number, row });
         Ok(Answer::Waits)
-    }
-
-    /// The stamp of an attempt.
-    fn stamp(&self, who: Attempt) -> u64
-        ensures { result ≡ (part_of self.now.accesses who).stamp }
-    {
-        match self.accesses.part(who) {
-            Some(part) => part.stamp(),
-            None => 0,
-        }
     }
 
     /// Votes, and takes the memory for the rows.
@@ -170,15 +144,8 @@ impl Table {
         ensures err { OnErr result (MayReserve self.old self.new) }
         ensures returned { IfErr result (λ e. (e.writes ≡ writes) × (e.appends ≡ appends)) }
     {
-        let stamp = self.stamp(who);
-        let Some(promised) = self.promised.checked_add(appends.len()) else {
-            return Err(PrepareNoMemory { writes, appends });
-        };
-        if self.store.reserve(promised).is_err() {
-            return Err(PrepareNoMemory { writes, appends });
-        }
+        let stamp = self.accesses.shelf().stamp(who);
         self.accesses.promise(who, writes, appends)?;
-        self.promised = promised;
         Ok(Vote::Yes {
             lo: stamp,
             hi: stamp,
@@ -211,7 +178,7 @@ impl Table {
             Some(version) => Ok((version.row.share()?, version.number)),
             None => {
                 let number = Number { n: 0, id: TxnId(0) };
-                Ok((Row::empty(self.store.allocator())?, number))
+                Ok((Row::empty(self.accesses.shelf().allocator())?, number))
             }
         }
     }
@@ -225,7 +192,7 @@ impl Table {
     ) -> Result<Woken, NoMemory>
         ensures { IfOk result (λ wakes. wakes ≡ map (wake_for self.now.pasts number rows.now) front.now) }
     {
-        let mut wakes = Woken::new(self.store.allocator());
+        let mut wakes = Woken::new(self.accesses.shelf().allocator());
         for waiter in front {
             let (row, version) = self.read_after(waiter, number, rows)?;
             wakes.push(Wake {
@@ -248,51 +215,36 @@ impl Table {
     ) -> Result<Woken, NoMemory>
         ensures { IfOk result (λ wakes. wakes ≡ map (wake_for self.now.pasts number (part_of self.now.accesses ended).writes) front.now) }
     {
-        match self.accesses.part(ended) {
-            Some(part) => self.wakes_of(front, number, part.writes()),
-            None => self.wakes_of(front, number, &[]),
-        }
+        self.wakes_of(front, number, self.accesses.shelf().writes(ended))
     }
 
     /// The waiting accesses that the end of an attempt lets go.
     fn front(&self, ended: Attempt) -> Result<Vec<Waiter>, NoMemory>
         ensures { IfOk result (λ front. front.items ≡ front_over ended self.now.accesses (part_of self.now.accesses ended).keys) }
     {
-        let alloc = self.store.allocator();
-        match self.accesses.part(ended) {
-            Some(part) => front_of(alloc, &self.accesses, part.keys(), ended),
-            None => Ok(Vec::new(alloc)),
-        }
+        let shelf = self.accesses.shelf();
+        front_of(shelf.allocator(), &self.accesses, shelf.keys(ended), ended)
     }
 
     /// Whether there is none.
     fn is_idle(&self, ended: Attempt) -> bool
         ensures { result ≡ none (front_over ended self.now.accesses (part_of self.now.accesses ended).keys) }
     {
-        match self.accesses.part(ended) {
-            Some(part) => is_idle(&self.accesses, part.keys(), ended),
-            None => true,
-        }
+        is_idle(&self.accesses, self.accesses.shelf().keys(ended), ended)
     }
 
     /// Ends an attempt, which commits where it has a number: its rows are written, and kept for those who wait above the
     /// number, and its accesses are taken out. Gives its keys.
     fn end(&mut self, who: Attempt, number: Option<Number>) -> Vec<Key>
-        requires present { (w : Keyed) → IsIn w (part_of self.old.accesses who).writes → has self.old.store w.key ≡ true }
-        requires promised { length (part_of self.old.accesses who).appends ≤ self.old.promised }
-        requires room { self.old.promised ≤ self.old.store.spare }
+        requires present { (w : Keyed) → IsIn w (part_of self.old.accesses who).writes → has self.old.accesses.shelf.store w.key ≡ true }
+        requires promised { length (part_of self.old.accesses who).appends ≤ self.old.accesses.shelf.promised }
+        requires room { self.old.accesses.shelf.promised ≤ self.old.accesses.shelf.store.spare }
         requires distinct { Distinct (part_of self.old.accesses who).copies }
         requires spare { (w : Keyed) → IsIn w (part_of self.old.accesses who).copies → 1 ≤ (past_at self.old.pasts w.key).spare }
         ensures { Ends who number self.old self.new }
     {
-        let Some(part) = self.accesses.end(who) else {
-            return Vec::new(self.store.allocator());
-        };
-        let (keys, writes, copies, appends) = part.into_lists();
-        self.promised -= appends.len();
+        let Ended { keys, copies } = self.accesses.end(who, number);
         if let Some(number) = number {
-            write_rows(&mut self.store, number, writes);
-            append_rows(&mut self.store, number, appends);
             keep_rows(&mut self.pasts, &self.accesses, number, copies);
         }
         keys
@@ -309,9 +261,9 @@ impl Table {
 
     /// Ends an attempt as `end` does, grants these accesses, and drops what nobody who waits for its keys would read.
     fn close(&mut self, who: Attempt, number: Option<Number>, front: &[Waiter])
-        requires present { (w : Keyed) → IsIn w (part_of self.old.accesses who).writes → has self.old.store w.key ≡ true }
-        requires promised { length (part_of self.old.accesses who).appends ≤ self.old.promised }
-        requires room { self.old.promised ≤ self.old.store.spare }
+        requires present { (w : Keyed) → IsIn w (part_of self.old.accesses who).writes → has self.old.accesses.shelf.store w.key ≡ true }
+        requires promised { length (part_of self.old.accesses who).appends ≤ self.old.accesses.shelf.promised }
+        requires room { self.old.accesses.shelf.promised ≤ self.old.accesses.shelf.store.spare }
         requires distinct { Distinct (part_of self.old.accesses who).copies }
         requires spare { (w : Keyed) → IsIn w (part_of self.old.accesses who).copies → 1 ≤ (past_at self.old.pasts w.key).spare }
         requires few { length front.now ≤ waiting_of self.old.accesses }
@@ -330,9 +282,9 @@ impl Table {
         number: Option<Number>,
         woken: &mut Woken,
     ) -> Result<(), NoMemory>
-        requires present { (w : Keyed) → IsIn w (part_of self.old.accesses who).writes → has self.old.store w.key ≡ true }
-        requires promised { length (part_of self.old.accesses who).appends ≤ self.old.promised }
-        requires room { self.old.promised ≤ self.old.store.spare }
+        requires present { (w : Keyed) → IsIn w (part_of self.old.accesses who).writes → has self.old.accesses.shelf.store w.key ≡ true }
+        requires promised { length (part_of self.old.accesses who).appends ≤ self.old.accesses.shelf.promised }
+        requires room { self.old.accesses.shelf.promised ≤ self.old.accesses.shelf.store.spare }
         requires distinct { Distinct (part_of self.old.accesses who).copies }
         requires spare { (w : Keyed) → IsIn w (part_of self.old.accesses who).copies → 1 ≤ (past_at self.old.pasts w.key).spare }
         requires few { length (front_over who self.old.accesses (part_of self.old.accesses who).keys) ≤ waiting_of self.old.accesses }
@@ -375,40 +327,6 @@ fn is_awaited(requests: &[Request], n: u64) -> bool
         }
     }
     false
-}
-
-/// The row of a key.
-fn find_row(rows: &[Keyed], key: Key) -> Option<&Row>
-    ensures { option_map (λ r. r.now) result ≡ row_for key rows.now }
-{
-    for keyed in rows {
-        if keyed.key == key {
-            return Some(&keyed.row);
-        }
-    }
-    None
-}
-
-/// Writes rows whose keys are present.
-fn write_rows(store: &mut Store, number: Number, rows: RowList)
-    requires present { (w : Keyed) → IsIn w rows → has store.old w.key ≡ true }
-    ensures versions { (key : Key) → version_at store.new key ≡ offered number rows key (version_at store.old key) }
-    ensures spare { store.new.spare ≡ store.old.spare }
-{
-    for Keyed { key, row } in rows.into_vec() {
-        store.put_at(key, number, row);
-    }
-}
-
-/// Appends rows, for which there is room.
-fn append_rows(store: &mut Store, number: Number, rows: RowList)
-    requires room { length rows ≤ store.old.spare }
-    ensures versions { (key : Key) → version_at store.new key ≡ offered number rows key (version_at store.old key) }
-    ensures spare { store.old.spare ≤ store.new.spare + length rows }
-{
-    for Keyed { key, row } in rows.into_vec() {
-        store.append(key, number, row);
-    }
 }
 
 /// Keeps rows of distinct keys for those who wait above the number, for which there is room.

@@ -17,11 +17,16 @@ use Rattle.protocol_rules.proofs.Traced.{Traced}
 use Rattle.stamp_lines.specs.declared.requests.Request.{Request}
 use Rattle.stamp_lines.specs.declared.accesses.Accesses.{Accesses}
 use Rattle.stamp_lines.specs.Requests.{put_request}
-use Rattle.stamp_lines.specs.Tables.{Holding, same_key, with_key}
+use Rattle.key_table.specs.Keys.{same_key}
+use Rattle.key_table.proofs.Places.{same_tells, same_self, at_place}
+use Rattle.shelf.specs.declared.shelf.Shelf.{Shelf}
+use Rattle.shelf.specs.Seen.{Held}
+use Rattle.shelf.specs.Held.{with_key}
+use Rattle.shelf.specs.Shelves.{held, Notes}
+use Rattle.shelf.proofs.Keeps.{keeps_granted, keeps_waiting, keeps_refused, keeps_reserved}
 use Rattle.stamp_lines.specs.Changes.{Adds, Same}
-use Rattle.stamp_lines.specs.Standing.{Seen, seen_of, owner_of, waiter_of, IsOwner, IsWaiter, Rising, KeysRise, Tracks}
-use Rattle.stamp_lines.proofs.Places.{same_tells, same_refl, attempt_refl}
-use Rattle.stamp_lines.proofs.Puts.{put_in, in_put, rising_put, key_in_put, keys_rise_put}
+use Rattle.stamp_lines.specs.Standing.{Seen, seen_of, owner_of, waiter_of, IsOwner, IsWaiter, Rising, Tracks}
+use Rattle.stamp_lines.proofs.Puts.{put_in, in_put, rising_put}
 
 -- what one more request gives
 pub record Grew (key : Key) (r : Request) (s s' : Seen) : Type 0 where
@@ -29,30 +34,25 @@ pub record Grew (key : Key) (r : Request) (s s' : Seen) : Type 0 where
   pub new : IsIn r (s'.requests key)
   pub only : (k : Key) (x : Request) → IsIn x (s'.requests k) → ((x ≡ r) × (key ≡ k)) ⊎ IsIn x (s.requests k)
   pub rising : (k : Key) → Rising (s.requests k) → ((x : Request) → IsIn x (s.requests key) → x.stamp ≢ r.stamp) → Rising (s'.requests k)
-  pub keys : (w : Attempt) (k : Key) → IsIn k (s.holding w).keys → IsIn k (s'.holding w).keys
-  pub mine : IsIn key (s'.holding r.who).keys
-  pub stamp : (s'.holding r.who).stamp ≡ r.stamp
-  pub stamps : (w : Attempt) → r.who ≢ w → (s'.holding w).stamp ≡ (s.holding w).stamp
-  pub keys_rise : (w : Attempt) → KeysRise (s.holding w).keys → KeysRise (s'.holding w).keys
-  pub writes : (w : Attempt) → (s'.holding w).writes ≡ (s.holding w).writes
-  pub copies : (w : Attempt) → (s'.holding w).copies ≡ (s.holding w).copies
-  pub appends : (w : Attempt) → (s'.holding w).appends ≡ (s.holding w).appends
+  pub notes : Notes r.who r.stamp key s.shelf s'.shelf
 
 -- at the key and elsewhere
 pub at_key : (key k : Key) (l a b : List Request) → l ≡ cond (same_key key k) a b → ((key ≡ k) × (l ≡ a)) ⊎ (l ≡ b)
 at_key key k l a b e = ⊎_elim (λ t. inl (t.1, e ∙ ap (λ x. cond x a b) t.0)) (λ f. inr (e ∙ ap (λ x. cond x a b) f.0)) (same_tells key k)
 
-pub at_who : (who w : Attempt) (l a b : Holding) → l ≡ cond (attempt_eq who w) a b → ((who ≡ w) × (l ≡ a)) ⊎ ((who ≢ w) × (l ≡ b))
-at_who who w l a b e = ⊎_elim (λ t. inl (t.1, e ∙ ap (λ x. cond x a b) t.0)) (λ f. inr (f.1, e ∙ ap (λ x. cond x a b) f.0)) (attempt_tells who w)
+-- the stamps after a key is noted
+stamp_here : (who : Attempt) (stamp : ℕ) (key : Key) (s s' : Shelf) → Notes who stamp key s s' → (held s' who).stamp ≡ stamp
+stamp_here who stamp key s s' c = ⊎_elim (λ t. ap (λ (p : Held). p.stamp) t.1) (λ f. absurd (f.0 refl)) (at_place attempt_eq attempt_tells who who (held s' who) (with_key stamp key (held s who)) (held s who) (c.holds who))
+
+stamp_there : (who : Attempt) (stamp : ℕ) (key : Key) (s s' : Shelf) → Notes who stamp key s s' → (w : Attempt) → who ≢ w → (held s' w).stamp ≡ (held s w).stamp
+stamp_there who stamp key s s' c w n = ⊎_elim (λ t. absurd (n t.0)) (λ f. ap (λ (p : Held). p.stamp) f.1) (at_place attempt_eq attempt_tells who w (held s' w) (with_key stamp key (held s who)) (held s w) (c.holds w))
 
 pub grew : (key : Key) (r : Request) (old new : Accesses) → Adds key r old new → Grew key r (seen_of old) (seen_of new)
 grew key r old new c =
     let s : Seen = seen_of old in
     let s' : Seen = seen_of new in
     let cases : (k : Key) → ((key ≡ k) × (s'.requests k ≡ put_request r (s.requests key))) ⊎ (s'.requests k ≡ s.requests k) = λ k. at_key key k (s'.requests k) (put_request r (s.requests key)) (s.requests k) (c.lines k) in
-    let parts : (w : Attempt) → ((r.who ≡ w) × (s'.holding w ≡ with_key r.stamp key (s.holding r.who))) ⊎ ((r.who ≢ w) × (s'.holding w ≡ s.holding w)) = λ w. at_who r.who w (s'.holding w) (with_key r.stamp key (s.holding r.who)) (s.holding w) (c.parts w) in
-    let here : s'.requests key ≡ put_request r (s.requests key) = c.lines key ∙ ap (λ x. cond x (put_request r (s.requests key)) (s.requests key)) (same_refl key) in
-    let mine : s'.holding r.who ≡ with_key r.stamp key (s.holding r.who) = c.parts r.who ∙ ap (λ x. cond x (with_key r.stamp key (s.holding r.who)) (s.holding r.who)) (attempt_refl r.who) in
+    let here : s'.requests key ≡ put_request r (s.requests key) = c.lines key ∙ ap (λ x. cond x (put_request r (s.requests key)) (s.requests key)) (same_self same_key same_tells key) in
     record {
       more = λ k x i. ⊎_elim
           (λ t. subst (λ l. IsIn x l) (sym t.1) (in_put r x (s.requests key) (inr (subst (λ q. IsIn x (s.requests q)) (sym t.0) i))))
@@ -67,25 +67,12 @@ grew key r old new c =
           (λ t. subst (λ l. Rising l) (sym t.1) (rising_put r (s.requests key) (subst (λ q. Rising (s.requests q)) (sym t.0) f) apart))
           (λ e. subst (λ l. Rising l) (sym e) f)
           (cases k);
-      keys = λ w k i. ⊎_elim
-          (λ t. subst (λ (p : Holding). IsIn k p.keys) (sym t.1) (key_in_put key k (s.holding r.who).keys (inr (subst (λ q. IsIn k (s.holding q).keys) (sym t.0) i))))
-          (λ e. subst (λ (p : Holding). IsIn k p.keys) (sym e.1) i)
-          (parts w);
-      mine = subst (λ (p : Holding). IsIn key p.keys) (sym mine) (key_in_put key key (s.holding r.who).keys (inl refl));
-      stamp = ap (λ (p : Holding). p.stamp) mine;
-      stamps = λ w n. ⊎_elim (λ t. absurd (n t.0)) (λ e. ap (λ (p : Holding). p.stamp) e.1) (parts w);
-      keys_rise = λ w f. ⊎_elim
-          (λ t. subst (λ (p : Holding). KeysRise p.keys) (sym t.1) (keys_rise_put key (s.holding r.who).keys (subst (λ q. KeysRise (s.holding q).keys) (sym t.0) f)))
-          (λ e. subst (λ (p : Holding). KeysRise p.keys) (sym e.1) f)
-          (parts w);
-      writes = λ w. ⊎_elim (λ t. ap (λ (p : Holding). p.writes) t.1 ∙ ap (λ q. (s.holding q).writes) t.0) (λ e. ap (λ (p : Holding). p.writes) e.1) (parts w);
-      copies = λ w. ⊎_elim (λ t. ap (λ (p : Holding). p.copies) t.1 ∙ ap (λ q. (s.holding q).copies) t.0) (λ e. ap (λ (p : Holding). p.copies) e.1) (parts w);
-      appends = λ w. ⊎_elim (λ t. ap (λ (p : Holding). p.appends) t.1 ∙ ap (λ q. (s.holding q).appends) t.0) (λ e. ap (λ (p : Holding). p.appends) e.1) (parts w);
+      notes = c.shelf;
     }
 
 -- what is the same tracks the same
-pub same_tracks : (h : History) (old new : Accesses) → Same old new → Tracks (seen_of old) h → Tracks (seen_of new) h
-same_tracks h old new c t =
+pub same_tracks : (loaded : Rows) (h : History) (old new : Accesses) → Same old new → Tracks loaded (seen_of old) h → Tracks loaded (seen_of new) h
+same_tracks loaded h old new c t =
     let s : Seen = seen_of old in
     let s' : Seen = seen_of new in
     record {
@@ -93,10 +80,9 @@ same_tracks h old new c t =
       queued = λ a i. subst (λ l. IsIn (waiter_of a) l) (sym (c.lines a.key)) (t.queued a i);
       real = λ k x i. t.real k x (subst (λ l. IsIn x l) (c.lines k) i);
       rising = λ k. subst (λ l. Rising l) (sym (c.lines k)) (t.rising k);
-      noted = λ g i u. subst (λ (p : Holding). IsIn g.key p.keys × (p.stamp ≡ g.stamp)) (sym (c.parts g.who)) (t.noted g i u);
-      noted_waiter = λ a i. subst (λ (p : Holding). IsIn a.key p.keys × (p.stamp ≡ a.stamp)) (sym (c.parts a.who)) (t.noted_waiter a i);
-      keys_rise = λ w. subst (λ (p : Holding). KeysRise p.keys) (sym (c.parts w)) (t.keys_rise w);
-      rows = λ w u. let o = t.rows w u in let e = c.parts w in (ap (λ (p : Holding). p.writes) e ∙ o.0, ap (λ (p : Holding). p.copies) e ∙ o.1, ap (λ (p : Holding). p.appends) e ∙ o.2);
+      stamped = λ g i u. ap (λ (p : Held). p.stamp) (c.shelf.holds g.who) ∙ t.stamped g i u;
+      stamped_waiter = λ a i. ap (λ (p : Held). p.stamp) (c.shelf.holds a.who) ∙ t.stamped_waiter a i;
+      kept = keeps_reserved t.kept c.shelf;
       waiting = c.waiting ∙ t.waiting;
     }
 
@@ -106,31 +92,31 @@ module _ (loaded : Rows) (h : History) (known : Known loaded h) (traced : Traced
   stamp_apart a i u k e = may.own_stamp a i (λ same. u (known.stops a.who (may.others a i same (λ one. may.once a i one k)))) e
 
   -- whose request it is
-  asked_by : (s : Seen) → Tracks s h → (x : Request) → IsIn x (s.requests key) → (a : Asked) × IsIn a (asks h) × IsUnended h a.who × (a.key ≡ key) × (a.who ≡ x.who) × (a.stamp ≡ x.stamp)
+  asked_by : (s : Seen) → Tracks loaded s h → (x : Request) → IsIn x (s.requests key) → (a : Asked) × IsIn a (asks h) × IsUnended h a.who × (a.key ≡ key) × (a.who ≡ x.who) × (a.stamp ≡ x.stamp)
   asked_by s t x i = ⊎_elim
       (λ (o : IsOwner h key x). let a = traced.asked o.grant o.there in (a.0, a.1, subst (λ w. IsUnended h w) (sym a.2) o.unended, a.3 ∙ o.here, a.2 ∙ sym (ap (λ (y : Request). y.who) o.same), a.5 ∙ sym (ap (λ (y : Request). y.stamp) o.same)))
       (λ (w : IsWaiter h key x). (w.asked, known.asked w.asked w.there, known.unended w.asked w.there, w.here, sym (ap (λ (y : Request). y.who) w.same), sym (ap (λ (y : Request). y.stamp) w.same)))
       (t.real key x i)
 
-  request_apart : (s : Seen) → Tracks s h → (x : Request) → IsIn x (s.requests key) → x.stamp ≢ stamp
+  request_apart : (s : Seen) → Tracks loaded s h → (x : Request) → IsIn x (s.requests key) → x.stamp ≢ stamp
   request_apart s t x i e = let a = asked_by s t x i in stamp_apart a.0 a.1 a.2 a.3 (a.5 ∙ e)
 
   -- the attempt has no request for the key
-  pub none_here : (s : Seen) → Tracks s h → (x : Request) → IsIn x (s.requests key) → x.who ≢ who
+  pub none_here : (s : Seen) → Tracks loaded s h → (x : Request) → IsIn x (s.requests key) → x.who ≢ who
   none_here s t x i e = let a = asked_by s t x i in may.once a.0 a.1 (a.4 ∙ e) a.3
 
   -- the asker's own stamp
   own_stamp : (a : Asked) → IsIn a (asks h) → a.who ≡ who → a.stamp ≡ stamp
   own_stamp a i e = may.same_stamp a i e
 
-  stamp_on : (s s' : Seen) (r : Request) → Grew key r s s' → r.who ≡ who → r.stamp ≡ stamp → (x : Attempt) (n : ℕ) → (x ≡ who → n ≡ stamp) → (s.holding x).stamp ≡ n → (s'.holding x).stamp ≡ n
+  stamp_on : (s s' : Seen) (r : Request) → Grew key r s s' → r.who ≡ who → r.stamp ≡ stamp → (x : Attempt) (n : ℕ) → (x ≡ who → n ≡ stamp) → (held s.shelf x).stamp ≡ n → (held s'.shelf x).stamp ≡ n
   stamp_on s s' r g w st x n own e = ⊎_elim
-      (λ t. subst (λ z. (s'.holding z).stamp ≡ n) t.1 (g.stamp ∙ st ∙ sym (own (sym t.1 ∙ w))))
-      (λ f. g.stamps x f.1 ∙ e)
+      (λ t. subst (λ z. (held s'.shelf z).stamp ≡ n) t.1 (stamp_here r.who r.stamp key s.shelf s'.shelf g.notes ∙ st ∙ sym (own (sym t.1 ∙ w))))
+      (λ f. stamp_there r.who r.stamp key s.shelf s'.shelf g.notes x f.1 ∙ e)
       (attempt_tells r.who x)
 
   -- it is granted
-  pub ask_granted : (s s' : Seen) (row : Row) (version : Number) (bound : ℕ) → Tracks s h → Grew key (record { who = who; stamp = stamp; mode = mode; waits = false }) s s' → s'.waiting ≡ s.waiting → Tracks s' (Ask who stamp key mode (Granted row version bound) ∷ h)
+  pub ask_granted : (s s' : Seen) (row : Row) (version : Number) (bound : ℕ) → Tracks loaded s h → Grew key (record { who = who; stamp = stamp; mode = mode; waits = false }) s s' → s'.waiting ≡ s.waiting → Tracks loaded s' (Ask who stamp key mode (Granted row version bound) ∷ h)
   ask_granted s s' row version bound t g w =
       let mine : Grant = record { who = who; stamp = stamp; key = key; mode = mode; row = row; version = version } in
       let r : Request = record { who = who; stamp = stamp; mode = mode; waits = false } in
@@ -145,18 +131,17 @@ module _ (loaded : Rows) (h : History) (known : Known loaded h) (traced : Traced
             (t.real k x j))
             (g.only k x i);
         rising = λ k. g.rising k (t.rising k) (request_apart s t);
-        noted = λ x i u. ⊎_elim
-            (λ e. subst (λ (z : Grant). IsIn z.key (s'.holding z.who).keys × ((s'.holding z.who).stamp ≡ z.stamp)) (sym e) (g.mine, g.stamp))
-            (λ j. let n = t.noted x j u in let a = traced.asked x j in (g.keys x.who x.key n.0, stamp_on s s' r g refl refl x.who x.stamp (λ e. sym a.5 ∙ own_stamp a.0 a.1 (a.2 ∙ e)) n.1))
+        stamped = λ x i u. ⊎_elim
+            (λ e. subst (λ (z : Grant). (held s'.shelf z.who).stamp ≡ z.stamp) (sym e) (stamp_here who stamp key s.shelf s'.shelf g.notes))
+            (λ j. let a = traced.asked x j in stamp_on s s' r g refl refl x.who x.stamp (λ e. sym a.5 ∙ own_stamp a.0 a.1 (a.2 ∙ e)) (t.stamped x j u))
             i;
-        noted_waiter = λ a i. let n = t.noted_waiter a i in (g.keys a.who a.key n.0, stamp_on s s' r g refl refl a.who a.stamp (λ e. own_stamp a (known.asked a i) e) n.1);
-        keys_rise = λ x. g.keys_rise x (t.keys_rise x);
-        rows = λ x u. let o = t.rows x u in (g.writes x ∙ o.0, g.copies x ∙ o.1, g.appends x ∙ o.2);
+        stamped_waiter = λ a i. stamp_on s s' r g refl refl a.who a.stamp (λ e. own_stamp a (known.asked a i) e) (t.stamped_waiter a i);
+        kept = keeps_granted t.kept g.notes;
         waiting = w ∙ t.waiting;
       }
 
   -- it waits
-  pub ask_waits : (s s' : Seen) → Tracks s h → Grew key (record { who = who; stamp = stamp; mode = mode; waits = true }) s s' → s'.waiting ≡ s.waiting + 1 → Tracks s' (Ask who stamp key mode Waits ∷ h)
+  pub ask_waits : (s s' : Seen) → Tracks loaded s h → Grew key (record { who = who; stamp = stamp; mode = mode; waits = true }) s s' → s'.waiting ≡ s.waiting + 1 → Tracks loaded s' (Ask who stamp key mode Waits ∷ h)
   ask_waits s s' t g w =
       let mine : Asked = record { who = who; stamp = stamp; key = key; mode = mode } in
       let r : Request = record { who = who; stamp = stamp; mode = mode; waits = true } in
@@ -171,18 +156,17 @@ module _ (loaded : Rows) (h : History) (known : Known loaded h) (traced : Traced
             (t.real k x j))
             (g.only k x i);
         rising = λ k. g.rising k (t.rising k) (request_apart s t);
-        noted = λ x i u. let n = t.noted x i u in let a = traced.asked x i in (g.keys x.who x.key n.0, stamp_on s s' r g refl refl x.who x.stamp (λ e. sym a.5 ∙ own_stamp a.0 a.1 (a.2 ∙ e)) n.1);
-        noted_waiter = λ a i. ⊎_elim
-            (λ e. subst (λ (z : Asked). IsIn z.key (s'.holding z.who).keys × ((s'.holding z.who).stamp ≡ z.stamp)) (sym e) (g.mine, g.stamp))
-            (λ j. let n = t.noted_waiter a j in (g.keys a.who a.key n.0, stamp_on s s' r g refl refl a.who a.stamp (λ e. own_stamp a (known.asked a j) e) n.1))
+        stamped = λ x i u. let a = traced.asked x i in stamp_on s s' r g refl refl x.who x.stamp (λ e. sym a.5 ∙ own_stamp a.0 a.1 (a.2 ∙ e)) (t.stamped x i u);
+        stamped_waiter = λ a i. ⊎_elim
+            (λ e. subst (λ (z : Asked). (held s'.shelf z.who).stamp ≡ z.stamp) (sym e) (stamp_here who stamp key s.shelf s'.shelf g.notes))
+            (λ j. stamp_on s s' r g refl refl a.who a.stamp (λ e. own_stamp a (known.asked a j) e) (t.stamped_waiter a j))
             i;
-        keys_rise = λ x. g.keys_rise x (t.keys_rise x);
-        rows = λ x u. let o = t.rows x u in (g.writes x ∙ o.0, g.copies x ∙ o.1, g.appends x ∙ o.2);
+        kept = keeps_waiting t.kept g.notes;
         waiting = let e = t.waiting in omega (arith, w, e);
       }
 
   -- it is refused
-  pub ask_refused : (s : Seen) (cause : Cause) → Tracks s h → Tracks s (Ask who stamp key mode (Refused cause) ∷ h)
+  pub ask_refused : (s : Seen) (cause : Cause) → Tracks loaded s h → Tracks loaded s (Ask who stamp key mode (Refused cause) ∷ h)
   ask_refused s cause t = record {
     owned = t.owned;
     queued = t.queued;
@@ -191,9 +175,8 @@ module _ (loaded : Rows) (h : History) (known : Known loaded h) (traced : Traced
         (λ (q : IsWaiter h k x). inr (record { asked = q.asked; there = q.there; here = q.here; same = q.same }))
         (t.real k x i);
     rising = t.rising;
-    noted = t.noted;
-    noted_waiter = t.noted_waiter;
-    keys_rise = t.keys_rise;
-    rows = t.rows;
+    stamped = t.stamped;
+    stamped_waiter = t.stamped_waiter;
+    kept = keeps_refused t.kept;
     waiting = t.waiting;
   }

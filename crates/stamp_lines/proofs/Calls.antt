@@ -14,21 +14,23 @@ use Rattle.protocol_rules.proofs.Known.{Known}
 use Rattle.protocol_rules.proofs.Traced.{Traced}
 use Rattle.protocol_rules.proofs.Marks.{stamp_is}
 use Rattle.stamp_lines.specs.declared.accesses.Accesses.{Accesses}
-use Rattle.stamp_lines.specs.Tables.{Holding}
+use Rattle.row_store.specs.Stores.{Seen as Store, row_in}
+use Rattle.control_core.specs.Leaving.{IsLoadedStore}
+use Rattle.shelf.specs.Shelves.{held}
+use Rattle.shelf.proofs.Keeps.{keeps_fresh}
 use Rattle.stamp_lines.specs.Changes.{IsFresh}
-use Rattle.stamp_lines.specs.Standing.{Seen, seen_of, Rising, KeysRise, Tracks}
+use Rattle.stamp_lines.specs.Standing.{Seen, seen_of, Rising, Tracks}
 
 -- no accesses
-pub fresh_tracks : (a : Accesses) → IsFresh a → Tracks (seen_of a) []
-fresh_tracks a f = record {
+pub fresh_tracks : (store : Store) (a : Accesses) → IsFresh store a → IsLoadedStore store → Tracks (row_in store) (seen_of a) []
+fresh_tracks store a f l = record {
   owned = λ g i u. absurd i;
   queued = λ x i. absurd i;
-  real = λ k x i. absurd (subst (λ l. IsIn x l) (f.lines k) i);
-  rising = λ k. subst (λ l. Rising l) (sym (f.lines k)) tt;
-  noted = λ g i u. absurd i;
-  noted_waiter = λ x i. absurd i;
-  keys_rise = λ w. subst (λ (p : Holding). KeysRise p.keys) (sym (f.parts w)) tt;
-  rows = λ w u. (ap (λ (p : Holding). p.writes) (f.parts w), ap (λ (p : Holding). p.copies) (f.parts w), ap (λ (p : Holding). p.appends) (f.parts w));
+  real = λ k x i. absurd (subst (λ rs. IsIn x rs) (f.lines k) i);
+  rising = λ k. subst (λ rs. Rising rs) (sym (f.lines k)) tt;
+  stamped = λ g i u. absurd i;
+  stamped_waiter = λ x i. absurd i;
+  kept = keeps_fresh true f.shelf l;
   waiting = f.waiting;
 }
 
@@ -53,13 +55,13 @@ waits_short (Prepare who bound ws as' vote ∷ k) = let e = waits_short k in ome
 waits_short (Commit who number woken ∷ k) = let e = waits_short k in let f = length_filter (λ a. not (is_woken woken a)) (waits k) in omega (arith, e, f)
 waits_short (Abort who woken ∷ k) = let e = waits_short k in let f = length_filter (λ a. not (is_woken woken a)) (waits k) in omega (arith, e, f)
 
-pub few_wait : (loaded : Rows) (h : History) (s : Seen) → Tracks s h → (who : Attempt) (stamp : ℕ) (key : Key) → MayAsk loaded h who stamp key → s.waiting < 2 ^ 63
+pub few_wait : (loaded : Rows) (h : History) (s : Seen) → Tracks loaded s h → (who : Attempt) (stamp : ℕ) (key : Key) → MayAsk loaded h who stamp key → s.waiting < 2 ^ 63
 few_wait loaded h s t who stamp key may = let e = t.waiting in let n = waits_short h in let m = may.short in omega (arith, e, n, m)
 
 -- the stamp of an attempt that prepares
-pub vote_stamp : (loaded : Rows) (h : History) (s : Seen) → Known loaded h → Traced h → Tracks s h → (who : Attempt) (bound : Bound) (writes appends : List Keyed) → MayPrepare h who bound writes appends → (s.holding who).stamp ≡ stamp_of (asks h) who
+pub vote_stamp : (loaded : Rows) (h : History) (s : Seen) → Known loaded h → Traced h → Tracks loaded s h → (who : Attempt) (bound : Bound) (writes appends : List Keyed) → MayPrepare h who bound writes appends → (held s.shelf who).stamp ≡ stamp_of (asks h) who
 vote_stamp loaded h s known traced t who bound writes appends may =
     let g = may.something in
     let a = traced.asked g.0 g.1 in
-    let n = (t.noted g.0 g.1 (subst (λ w. IsUnended h w) (sym g.2) may.unended)).1 in
-    ap (λ w. (s.holding w).stamp) (sym g.2) ∙ n ∙ sym a.5 ∙ sym (stamp_is (asks h) a.0 known.stamp a.1) ∙ ap (stamp_of (asks h)) (a.2 ∙ g.2)
+    let n = t.stamped g.0 g.1 (subst (λ w. IsUnended h w) (sym g.2) may.unended) in
+    ap (λ w. (held s.shelf w).stamp) (sym g.2) ∙ n ∙ sym a.5 ∙ sym (stamp_is (asks h) a.0 known.stamp a.1) ∙ ap (stamp_of (asks h)) (a.2 ∙ g.2)

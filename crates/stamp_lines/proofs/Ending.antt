@@ -1,5 +1,5 @@
 -- The accesses track the history with one more Prepare, and with the end of an attempt that wakes nobody.
-use Rattle.std.proofs.Common.{◌≡◌, ◌≢◌, ◌⊎◌, ℕ, List, [], ◌∷◌, filter, Bool, true, false, not, cond, length, refl, sym, ap, ◌∙◌, subst, inl, inr, ⊎_elim}
+use Rattle.std.proofs.Common.{◌≡◌, ◌≢◌, ◌⊎◌, ℕ, List, [], ◌∷◌, filter, Bool, true, false, not, cond, length, refl, sym, ap, ◌∙◌, subst, inl, inr, ⊎_elim, Option, option_map}
 use Rattle.deneva_base.specs.declared.keys.Key.{Key}
 use Rattle.deneva_base.specs.declared.numbers.Attempt.{Attempt}
 use Rattle.deneva_base.specs.declared.numbers.Number.{Number}
@@ -19,22 +19,27 @@ use Rattle.control_core.proofs.Lasts.{appends_in}
 use Rattle.stamp_lines.specs.declared.requests.Request.{Request}
 use Rattle.stamp_lines.specs.declared.accesses.Accesses.{Accesses}
 use Rattle.stamp_lines.specs.Requests.{without}
-use Rattle.stamp_lines.specs.Tables.{Holding, same_key, nothing, with_rows, all_ended}
+use Rattle.key_table.specs.Keys.{same_key}
+use Rattle.key_table.proofs.Places.{same_tells, at_place}
+use Rattle.row_store.specs.Stores.{version_at}
+use Rattle.control_core.specs.Leaving.{last}
+use Rattle.shelf.specs.Seen.{Held}
+use Rattle.shelf.specs.Held.{nothing, with_rows}
+use Rattle.shelf.specs.Shelves.{held}
+use Rattle.shelf.specs.Keeps.{version_of, Apart, Closes}
+use Rattle.shelf.proofs.Keeps.{keeps_promised, keeps_ended}
+use Rattle.stamp_lines.specs.Tables.{all_ended}
 use Rattle.stamp_lines.specs.Changes.{Promises, Ends}
-use Rattle.stamp_lines.specs.Standing.{Seen, seen_of, owner_of, waiter_of, IsOwner, IsWaiter, Rising, KeysRise, Tracks}
-use Rattle.stamp_lines.proofs.Places.{same_tells}
+use Rattle.stamp_lines.specs.Standing.{Seen, seen_of, owner_of, waiter_of, IsOwner, IsWaiter, Rising, Tracks}
 use Rattle.stamp_lines.proofs.Puts.{left_in, in_left, filter_none, rising_filter}
-use Rattle.stamp_lines.proofs.Asking.{at_who}
 
 module _ (loaded : Rows) (h : History) (who : Attempt) (bound : Bound) (writes' appends : List Keyed) (may : MayPrepare h who bound writes' appends) where
   -- it votes Yes
-  pub prepared : (old new : Accesses) (lo hi : ℕ) → Promises who writes' appends old new → Tracks (seen_of old) h → Tracks (seen_of new) (Prepare who bound writes' appends (Yes lo hi) ∷ h)
+  pub prepared : (old new : Accesses) (lo hi : ℕ) → Promises who writes' appends old new → Tracks loaded (seen_of old) h → Tracks loaded (seen_of new) (Prepare who bound writes' appends (Yes lo hi) ∷ h)
   prepared old new lo hi c t =
       let s : Seen = seen_of old in
       let s' : Seen = seen_of new in
-      let p : (w : Attempt) → ((who ≡ w) × (s'.holding w ≡ with_rows writes' appends (s.holding who))) ⊎ ((who ≢ w) × (s'.holding w ≡ s.holding w)) = λ w. at_who who w (s'.holding w) (with_rows writes' appends (s.holding who)) (s.holding w) (c.parts w) in
-      let keys : (w : Attempt) → (s'.holding w).keys ≡ (s.holding w).keys = λ w. ⊎_elim (λ x. ap (λ (l : Holding). l.keys) x.1 ∙ ap (λ q. (s.holding q).keys) x.0) (λ e. ap (λ (l : Holding). l.keys) e.1) (p w) in
-      let stamps : (w : Attempt) → (s'.holding w).stamp ≡ (s.holding w).stamp = λ w. ⊎_elim (λ x. ap (λ (l : Holding). l.stamp) x.1 ∙ ap (λ q. (s.holding q).stamp) x.0) (λ e. ap (λ (l : Holding). l.stamp) e.1) (p w) in
+      let stamps : (w : Attempt) → (held s'.shelf w).stamp ≡ (held s.shelf w).stamp = λ w. ⊎_elim (λ x. ap (λ (p : Held). p.stamp) x.1 ∙ ap (λ q. (held s.shelf q).stamp) x.0) (λ f. ap (λ (p : Held). p.stamp) f.1) (at_place attempt_eq attempt_tells who w (held s'.shelf w) (with_rows writes' writes' appends (held s.shelf who)) (held s.shelf w) (c.shelf.holds w)) in
       record {
         owned = λ g i u. subst (λ l. IsIn (owner_of g) l) (sym (c.lines g.key)) (t.owned g i u);
         queued = λ a i. subst (λ l. IsIn (waiter_of a) l) (sym (c.lines a.key)) (t.queued a i);
@@ -43,13 +48,9 @@ module _ (loaded : Rows) (h : History) (who : Attempt) (bound : Bound) (writes' 
             (λ (q : IsWaiter h k x). inr (record { asked = q.asked; there = q.there; here = q.here; same = q.same }))
             (t.real k x (subst (λ l. IsIn x l) (c.lines k) i));
         rising = λ k. subst (λ l. Rising l) (sym (c.lines k)) (t.rising k);
-        noted = λ g i u. let n = t.noted g i u in (subst (λ l. IsIn g.key l) (sym (keys g.who)) n.0, stamps g.who ∙ n.1);
-        noted_waiter = λ a i. let n = t.noted_waiter a i in (subst (λ l. IsIn a.key l) (sym (keys a.who)) n.0, stamps a.who ∙ n.1);
-        keys_rise = λ w. subst (λ l. KeysRise l) (sym (keys w)) (t.keys_rise w);
-        rows = λ w u. ⊎_elim
-            (λ x. let e = c.parts w in (ap (λ (l : Holding). l.writes) e ∙ rw x.0 refl, ap (λ (l : Holding). l.copies) e ∙ rw x.0 refl, ap (λ (l : Holding). l.appends) e ∙ rw x.0 refl))
-            (λ x. let e = c.parts w in let o = t.rows w u in (ap (λ (l : Holding). l.writes) e ∙ rw x.0 o.0, ap (λ (l : Holding). l.copies) e ∙ rw x.0 o.1, ap (λ (l : Holding). l.appends) e ∙ rw x.0 o.2))
-            (attempt_tells who w);
+        stamped = λ g i u. stamps g.who ∙ t.stamped g i u;
+        stamped_waiter = λ a i. stamps a.who ∙ t.stamped_waiter a i;
+        kept = keeps_promised may.unended refl t.kept c.shelf;
         waiting = c.waiting ∙ t.waiting;
       }
 
@@ -69,69 +70,43 @@ all_ended_is who (q ∷ qs) k l n = ⊎_elim
     (λ f. rw f.0 (all_ended_is who qs k l (λ x i e. ⊎_elim (λ (s : k ≡ q). absurd (f.1 (sym s))) (λ j. j) (n x i e))))
     (same_tells q k)
 
-pub waits_same : (ws : List Asked) → filter (λ a. not (is_woken [] a)) ws ≡ ws
-waits_same [] = refl
-waits_same (w ∷ ws) = ap (λ l. w ∷ l) (waits_same ws)
-
--- the end of an attempt that waits nowhere: h is the history before it
-pub record Closes (h h' : History) (who : Attempt) : Type 0 where
-  pub grants_same : grants h' ≡ grants h
-  pub waits_kept : waits h' ≡ waits h
-  pub ended_more : ended h' ≡ who ∷ ended h
-  pub yeas_same : yeas h' ≡ yeas h
-  pub unended : IsUnended h who
-  pub nowhere : WaitsNowhere h who
-
-pub commit_closes : (loaded : Rows) (h : History) (who : Attempt) (number : Number) → Known loaded h → Sound loaded h → MayCommit h who number → Closes h (Commit who number [] ∷ h) who
-commit_closes loaded h who number known sound may = record {
-  grants_same = refl;
-  waits_kept = waits_same (waits h);
-  ended_more = refl;
-  yeas_same = refl;
-  unended = may.unended;
-  nowhere = λ a i e. known.opened a i (subst (λ w. IsIn w (closed h)) (may.inside.2 ∙ sym e) (sound.closes may.inside.0 may.inside.1));
-}
-
-pub abort_closes : (h : History) (who : Attempt) → MayAbort h who → Closes h (Abort who [] ∷ h) who
-abort_closes h who may = record { grants_same = refl; waits_kept = waits_same (waits h); ended_more = refl; yeas_same = refl; unended = may.unended; nowhere = may.nowhere }
-
 module _ (h h' : History) (who : Attempt) (c : Closes h h' who) where
-  -- the attempt has requests only for the keys that it noted
-  covered : (s : Seen) → Tracks s h → (k : Key) (x : Request) → IsIn x (s.requests k) → x.who ≡ who → IsIn k (s.holding who).keys
-  covered s t k x i e = ⊎_elim
-      (λ (o : IsOwner h k x). let same : o.grant.who ≡ who = sym (ap (λ (r : Request). r.who) o.same) ∙ e in subst (λ q. IsIn q (s.holding who).keys) o.here (subst (λ w. IsIn o.grant.key (s.holding w).keys) same (t.noted o.grant o.there o.unended).0))
-      (λ (q : IsWaiter h k x). absurd (c.nowhere q.asked q.there (sym (ap (λ (r : Request). r.who) q.same) ∙ e)))
-      (t.real k x i)
-
   pub still : (x : Attempt) → IsUnended h' x → (x ≢ who) × IsUnended h x
   still x u = ((λ e. u (subst (λ l. IsIn x l) (sym c.ended_more) (inl e))), (λ i. u (subst (λ l. IsIn x l) (sym c.ended_more) (inr i))))
 
   pub unended_on : (x : Attempt) → x ≢ who → IsUnended h x → IsUnended h' x
   unended_on x n u i = ⊎_elim (λ e. n e) (λ j. u j) (subst (λ l. IsIn x l) c.ended_more i)
 
-  -- the attempt's requests are gone
-  pub requests_left : (old new : Accesses) → Tracks (seen_of old) h → Ends who old new → (k : Key) → (seen_of new).requests k ≡ without who ((seen_of old).requests k)
-  requests_left old new t e k = e.lines k ∙ all_ended_is who ((seen_of old).holding who).keys k ((seen_of old).requests k) (λ x i is. covered (seen_of old) t k x i is)
+module _ (loaded : Rows) (h h' : History) (who : Attempt) (number : Option Number) (apart : Apart (yeas h)) (c : Closes h h' who) where
+  -- the attempt has requests only for the keys that it noted
+  covered : (s : Seen) → Tracks loaded s h → (k : Key) (x : Request) → IsIn x (s.requests k) → x.who ≡ who → IsIn k (held s.shelf who).keys
+  covered s t k x i e = ⊎_elim
+      (λ (o : IsOwner h k x). let same : o.grant.who ≡ who = sym (ap (λ (r : Request). r.who) o.same) ∙ e in subst (λ q. IsIn q (held s.shelf who).keys) o.here (subst (λ w. IsIn o.grant.key (held s.shelf w).keys) same (t.kept.noted o.grant o.there o.unended)))
+      (λ (q : IsWaiter h k x). absurd (c.nowhere q.asked q.there (sym (ap (λ (r : Request). r.who) q.same) ∙ e)))
+      (t.real k x i)
 
-  pub closed_tracks : (old new : Accesses) → Tracks (seen_of old) h → Ends who old new → Tracks (seen_of new) h'
-  closed_tracks old new t e =
+  -- the attempt's requests are gone
+  pub requests_left : (old new : Accesses) → Tracks loaded (seen_of old) h → Ends who number old new → (k : Key) → (seen_of new).requests k ≡ without who ((seen_of old).requests k)
+  requests_left old new t e k = e.lines k ∙ all_ended_is who (held old.shelf who).keys k ((seen_of old).requests k) (λ x i is. covered (seen_of old) t k x i is)
+
+  pub closed_tracks : (old new : Accesses) → Tracks loaded (seen_of old) h → Ends who number old new → ((k : Key) → option_map version_of (version_at new.shelf.store k) ≡ last loaded h' k) → Tracks loaded (seen_of new) h'
+  closed_tracks old new t e versions =
       let s : Seen = seen_of old in
       let s' : Seen = seen_of new in
       let rs : (k : Key) → s'.requests k ≡ without who (s.requests k) = requests_left old new t e in
-      let others : (w : Attempt) → w ≢ who → s'.holding w ≡ s.holding w = λ w n. ⊎_elim (λ x. absurd (n (sym x.1))) (λ f. e.parts w ∙ ap (λ b. cond b nothing (s.holding w)) f.0) (attempt_tells who w) in
+      let others : (w : Attempt) → w ≢ who → (held s'.shelf w).stamp ≡ (held s.shelf w).stamp = λ w n. ⊎_elim (λ x. absurd (n (sym x.0))) (λ f. ap (λ (p : Held). p.stamp) f.1) (at_place attempt_eq attempt_tells who w (held s'.shelf w) nothing (held s.shelf w) (e.shelf.holds w)) in
       record {
-        owned = λ g i u. let v = still g.who u in subst (λ l. IsIn (owner_of g) l) (sym (rs g.key)) (in_left who (owner_of g) (s.requests g.key) (t.owned g (subst (λ l. IsIn g l) c.grants_same i) v.1) v.0);
-        queued = λ a i. let j = subst (λ l. IsIn a l) c.waits_kept i in subst (λ l. IsIn (waiter_of a) l) (sym (rs a.key)) (in_left who (waiter_of a) (s.requests a.key) (t.queued a j) (c.nowhere a j));
+        owned = λ g i u. let v = still h h' who c g.who u in subst (λ l. IsIn (owner_of g) l) (sym (rs g.key)) (in_left who (owner_of g) (s.requests g.key) (t.owned g (subst (λ l. IsIn g l) c.grants_same i) v.1) v.0);
+        queued = λ a i. let j = subst (λ l. IsIn a l) c.waits_same i in subst (λ l. IsIn (waiter_of a) l) (sym (rs a.key)) (in_left who (waiter_of a) (s.requests a.key) (t.queued a j) (c.nowhere a j));
         real = λ k x i.
             let f = left_in who x (s.requests k) (subst (λ l. IsIn x l) (rs k) i) in
             ⊎_elim
-            (λ (o : IsOwner h k x). inl (record { grant = o.grant; there = subst (λ l. IsIn o.grant l) (sym c.grants_same) o.there; unended = unended_on o.grant.who (λ is. f.1 (ap (λ (r : Request). r.who) o.same ∙ is)) o.unended; here = o.here; same = o.same }))
-            (λ (q : IsWaiter h k x). inr (record { asked = q.asked; there = subst (λ l. IsIn q.asked l) (sym c.waits_kept) q.there; here = q.here; same = q.same }))
+            (λ (o : IsOwner h k x). inl (record { grant = o.grant; there = subst (λ l. IsIn o.grant l) (sym c.grants_same) o.there; unended = unended_on h h' who c o.grant.who (λ is. f.1 (ap (λ (r : Request). r.who) o.same ∙ is)) o.unended; here = o.here; same = o.same }))
+            (λ (q : IsWaiter h k x). inr (record { asked = q.asked; there = subst (λ l. IsIn q.asked l) (sym c.waits_same) q.there; here = q.here; same = q.same }))
             (t.real k x f.0);
         rising = λ k. subst (λ l. Rising l) (sym (rs k)) (rising_filter (λ r. not (attempt_eq r.who who)) (s.requests k) (t.rising k));
-        noted = λ g i u. let v = still g.who u in subst (λ (l : Holding). IsIn g.key l.keys × (l.stamp ≡ g.stamp)) (sym (others g.who v.0)) (t.noted g (subst (λ l. IsIn g l) c.grants_same i) v.1);
-        noted_waiter = λ a i. let j = subst (λ l. IsIn a l) c.waits_kept i in subst (λ (l : Holding). IsIn a.key l.keys × (l.stamp ≡ a.stamp)) (sym (others a.who (c.nowhere a j))) (t.noted_waiter a j);
-        keys_rise = λ w. ⊎_elim (λ x. subst (λ (l : Holding). KeysRise l.keys) (sym (e.parts w ∙ ap (λ b. cond b nothing (s.holding w)) x.0)) tt) (λ x. subst (λ (l : Holding). KeysRise l.keys) (sym (e.parts w ∙ ap (λ b. cond b nothing (s.holding w)) x.0)) (t.keys_rise w)) (attempt_tells who w);
-        rows = λ w u. let v = still w u in let o = t.rows w v.1 in (ap (λ (l : Holding). l.writes) (others w v.0) ∙ o.0 ∙ ap (λ ys. writes_in ys w) (sym c.yeas_same), ap (λ (l : Holding). l.copies) (others w v.0) ∙ o.1 ∙ ap (λ ys. writes_in ys w) (sym c.yeas_same), ap (λ (l : Holding). l.appends) (others w v.0) ∙ o.2 ∙ ap (λ ys. appends_in ys w) (sym c.yeas_same));
-        waiting = e.waiting ∙ t.waiting ∙ ap (λ (l : List Asked). length l) (sym c.waits_kept);
+        stamped = λ g i u. let v = still h h' who c g.who u in others g.who v.0 ∙ t.stamped g (subst (λ l. IsIn g l) c.grants_same i) v.1;
+        stamped_waiter = λ a i. let j = subst (λ l. IsIn a l) c.waits_same i in others a.who (c.nowhere a j) ∙ t.stamped_waiter a j;
+        kept = keeps_ended apart c t.kept e.shelf versions;
+        waiting = e.waiting ∙ t.waiting ∙ ap (λ (l : List Asked). length l) (sym c.waits_same);
       }

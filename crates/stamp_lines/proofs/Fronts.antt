@@ -19,8 +19,9 @@ use Rattle.protocol_rules.proofs.Stops.{in_held, held_from}
 use Rattle.protocol_rules.proofs.Stamped.{waits_total}
 use Rattle.stamp_lines.specs.declared.requests.Request.{Request}
 use Rattle.stamp_lines.specs.Requests.{stops, is_stopped, is_writer, first_writer, reaches}
-use Rattle.stamp_lines.specs.Standing.{Seen, owner_of, waiter_of, IsOwner, IsWaiter, Rising, KeysRise, Tracks}
-use Rattle.stamp_lines.proofs.Ending.{Closes, still, unended_on}
+use Rattle.shelf.specs.Keeps.{Closes, Rising as KeysRise}
+use Rattle.stamp_lines.specs.Standing.{Seen, owner_of, waiter_of, IsOwner, IsWaiter, Rising, Tracks}
+use Rattle.stamp_lines.proofs.Ending.{still, unended_on}
 
 abbrev pub asked_for : Key → Request → Asked
 asked_for key r = record { who = r.who; stamp = r.stamp; key = key; mode = r.mode }
@@ -90,7 +91,7 @@ and_4 : (a b c d : Bool) → a ≡ true → b ≡ true → c ≡ true → d ≡ 
 and_4 a b c d p q r s = and_true a (b && (c && d)) p (and_true b (c && d) q (and_true c d r s))
 
 -- what stops an access that asks: `test` is the rule's, which says that a writer stands above `from` and below the access
-module _ (h : History) (s : Seen) (t : Tracks s h) (test : Asked → Asked → Bool) (a : Asked) (from : ℕ) where
+module _ {loaded : Rows} (h : History) (s : Seen) (t : Tracks loaded s h) (test : Asked → Asked → Bool) (a : Asked) (from : ℕ) where
   abbrev pub Agrees : Asked → Type 0
   Agrees b = test a b ≡ (older_writer a b && ltb from b.stamp)
 
@@ -177,7 +178,7 @@ module _ (h : History) (s : Seen) (t : Tracks s h) (test : Asked → Asked → B
         no n x i o w f l = true≢false (sym (and_true (is_writer from who x) (ltb x.stamp a.stamp) (and_true (not (attempt_eq x.who who)) (writes x.mode && ltb from x.stamp) (⊎_elim (λ m. absurd (o m.1)) (λ m. ap not m.0) (attempt_tells x.who who)) (and_true (writes x.mode) (ltb from x.stamp) w f)) l) ∙ n x i)
 
 -- those of the waiting requests for these keys that pass a test
-module _ (loaded : Rows) (h : History) (known : Known loaded h) (distinct : Distinct (waits h)) (s : Seen) (t : Tracks s h) (q : Asked → Bool) where
+module _ (loaded : Rows) (h : History) (known : Known loaded h) (distinct : Distinct (waits h)) (s : Seen) (t : Tracks loaded s h) (q : Asked → Bool) where
   abbrev pub by_keys : List Key → List Asked
   by_keys [] = []
   by_keys (k ∷ ks) = filter q (waiting_in k (s.requests k)) ++ by_keys ks

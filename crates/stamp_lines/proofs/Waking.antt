@@ -18,10 +18,15 @@ use Rattle.stamp_lines.specs.declared.requests.Request.{Request}
 use Rattle.stamp_lines.specs.declared.lines.Waiter.{Waiter}
 use Rattle.stamp_lines.specs.declared.accesses.Accesses.{Accesses}
 use Rattle.stamp_lines.specs.Requests.{grants_to, granted}
-use Rattle.stamp_lines.specs.Tables.{Holding, same_key, all_granted}
+use Rattle.key_table.specs.Keys.{same_key}
+use Rattle.key_table.proofs.Places.{same_tells}
+use Rattle.control_core.specs.Leaving.{last}
+use Rattle.shelf.specs.Shelves.{held}
+use Rattle.shelf.specs.Keeps.{KeepsRows}
+use Rattle.shelf.proofs.Keeps.{keeps_resumed}
+use Rattle.stamp_lines.specs.Tables.{all_granted}
 use Rattle.stamp_lines.specs.Changes.{Wakes}
-use Rattle.stamp_lines.specs.Standing.{Seen, seen_of, owner_of, waiter_of, IsOwner, IsWaiter, Rising, KeysRise, Tracks}
-use Rattle.stamp_lines.proofs.Places.{same_tells}
+use Rattle.stamp_lines.specs.Standing.{Seen, seen_of, owner_of, waiter_of, IsOwner, IsWaiter, Rising, Tracks}
 
 -- a request after these are granted
 abbrev pub granted_by : List Waiter → Key → Request → Request
@@ -197,11 +202,12 @@ module _ (f : Asked → Wake) (who_of : (a : Asked) → (f a).who ≡ a.who) (ke
   woken_owner : (a : Asked) → owner_of (grant_of (f a) a) ≡ now_granted (waiter_of a)
   woken_owner a = ap (λ z. record { who = z; stamp = a.stamp; mode = a.mode; waits = false }) (who_of a)
 
-  pub wake_tracks : (old new : Accesses) → Tracks (seen_of old) h1 → Wakes ws old new → Tracks (seen_of new) h2
-  wake_tracks old new t c =
+  pub wake_tracks : ((k : Key) → last loaded h2 k ≡ last loaded h1 k) → (old new : Accesses) → Tracks loaded (seen_of old) h1 → Wakes ws old new → Tracks loaded (seen_of new) h2
+  wake_tracks lasts old new t c =
       let s : Seen = seen_of old in
       let s' : Seen = seen_of new in
       let rs : (k : Key) → s'.requests k ≡ map (granted_by ws k) (s.requests k) = λ k. c.lines k ∙ granted_requests ws k (s.requests k) in
+      let same : (x : Attempt) → (held s'.shelf x).stamp ≡ (held s.shelf x).stamp = λ x. ap (λ z. (held z x).stamp) c.shelf in
       let there : (k : Key) (x : Request) → IsIn x (s.requests k) → IsIn (granted_by ws k x) (s'.requests k) = λ k x i. subst (λ l. IsIn (granted_by ws k x) l) (sym (rs k)) (in_map (granted_by ws k) x (s.requests k) i) in
       record {
         owned = λ g i u. ⊎_elim
@@ -213,16 +219,19 @@ module _ (f : Asked → Wake) (who_of : (a : Asked) → (f a).who ≡ a.who) (ke
         queued = λ a i. let j = still_waits a i in subst (λ r. IsIn r (s'.requests a.key)) (miss a j.0 j.1) (there a.key (waiter_of a) (t.queued a j.0));
         real = λ k y i. real s t k y (in_map_from (granted_by ws k) y (s.requests k) (subst (λ l. IsIn y l) (rs k) i));
         rising = λ k. subst (λ l. Rising l) (sym (rs k)) (rising_map (granted_by ws k) (s.requests k) (λ r. (by_same ws k r).1) (t.rising k));
-        noted = λ g i u. ⊎_elim
-            (λ n. subst (λ (z : Grant). IsIn z.key (s'.holding z.who).keys × ((s'.holding z.who).stamp ≡ z.stamp)) (sym n.2)
-            (subst (λ k. IsIn k (s'.holding (f n.0).who).keys × ((s'.holding (f n.0).who).stamp ≡ n.0.stamp)) (sym (key_of n.0))
-            (subst (λ x. IsIn n.0.key (s'.holding x).keys × ((s'.holding x).stamp ≡ n.0.stamp)) (sym (who_of n.0))
-            (subst (λ (l : Holding). IsIn n.0.key l.keys × (l.stamp ≡ n.0.stamp)) (sym (c.parts n.0.who)) (t.noted_waiter n.0 (less n.0 n.1))))))
-            (λ j. subst (λ (l : Holding). IsIn g.key l.keys × (l.stamp ≡ g.stamp)) (sym (c.parts g.who)) (t.noted g j (unended g.who u)))
+        stamped = λ g i u. ⊎_elim
+            (λ n. subst (λ (z : Grant). (held s'.shelf z.who).stamp ≡ z.stamp) (sym n.2)
+            (subst (λ x. (held s'.shelf x).stamp ≡ n.0.stamp) (sym (who_of n.0)) (same n.0.who ∙ t.stamped_waiter n.0 (less n.0 n.1))))
+            (λ j. same g.who ∙ t.stamped g j (unended g.who u))
             (cases g i);
-        noted_waiter = λ a i. subst (λ (l : Holding). IsIn a.key l.keys × (l.stamp ≡ a.stamp)) (sym (c.parts a.who)) (t.noted_waiter a (still_waits a i).0);
-        keys_rise = λ x. subst (λ (l : Holding). KeysRise l.keys) (sym (c.parts x)) (t.keys_rise x);
-        rows = λ x u. let o = t.rows x (unended x u) in let e = c.parts x in (ap (λ (l : Holding). l.writes) e ∙ o.0 ∙ ap (λ ys. writes_in ys x) (sym w.yeas_same), ap (λ (l : Holding). l.copies) e ∙ o.1 ∙ ap (λ ys. writes_in ys x) (sym w.yeas_same), ap (λ (l : Holding). l.appends) e ∙ o.2 ∙ ap (λ ys. appends_in ys x) (sym w.yeas_same));
+        stamped_waiter = λ a i. same a.who ∙ t.stamped_waiter a (still_waits a i).0;
+        kept = subst (λ x. KeepsRows true loaded x h2) (sym c.shelf) (keeps_resumed t.kept (record {
+          grants_from = λ g i. ⊎_elim (λ n. inr (n.0, less n.0 n.1, sym (ap (λ (z : Grant). z.who) n.2 ∙ who_of n.0), sym (ap (λ (z : Grant). z.key) n.2 ∙ key_of n.0))) (λ j. inl j) (cases g i);
+          waits_from = λ a i. (still_waits a i).0;
+          ended_same = w.ended_same;
+          yeas_same = w.yeas_same;
+          last_same = lasts;
+        }));
         waiting =
             let some = split_count q (λ a. not (is_woken woken a)) (waits h1) (λ a i. ap not (same_test a i)) in
             let fewer = ap (λ (l : List Asked). length l) w.waits_less in
@@ -233,7 +242,7 @@ module _ (f : Asked → Wake) (who_of : (a : Asked) → (f a).who ≡ a.who) (ke
             omega (arith, some, fewer, all, sorted, before, now);
       }
     where
-      real : (s : Seen) → Tracks s h1 → (k : Key) (y : Request) → (x : Request) × IsIn x (s.requests k) × (y ≡ granted_by ws k x) → IsOwner h2 k y ⊎ IsWaiter h2 k y
+      real : (s : Seen) → Tracks loaded s h1 → (k : Key) (y : Request) → (x : Request) × IsIn x (s.requests k) × (y ≡ granted_by ws k x) → IsOwner h2 k y ⊎ IsWaiter h2 k y
       real s t k y g = ⊎_elim
           (λ (o : IsOwner h1 k g.0). inl (record { grant = o.grant; there = old_grant o.grant o.there; unended = unended_on o.grant.who o.unended; here = o.here; same = g.2 ∙ by_owner ws k g.0 (ap (λ (r : Request). r.waits) o.same) ∙ o.same }))
           (λ (x : IsWaiter h1 k g.0). waiter x.asked x.there x.here (g.2 ∙ ap (granted_by ws k) x.same) (is_woken woken x.asked) refl)

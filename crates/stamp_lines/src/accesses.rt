@@ -1,35 +1,45 @@
 //! The accesses of a partition.
-ghost use Rattle.std.specs.Prelude.{◌≡◌, ◌≢◌, ◌≤◌, ◌<◌, ◌^◌, ◌+◌, length, option_map, IfErr, OnOk, OnErr};
+ghost use Rattle.std.specs.Prelude.{◌≡◌, ◌≢◌, ◌≤◌, ◌<◌, ◌^◌, true, length, IfErr, OnOk, OnErr};
 ghost use Rattle.deneva_base.specs.Lists.{IsIn};
+ghost use Rattle.deneva_base.specs.declared.rows.Keyed.{Keyed};
+ghost use Rattle.row_store.specs.Stores.{has};
 ghost use Rattle.stamp_lines.specs.declared.requests.Request.{Request};
 ghost use Rattle.stamp_lines.specs.Requests.{is_stopped, first_writer};
-ghost use Rattle.stamp_lines.specs.Tables.{requests_at, part_of, waiting_of, holding_in};
+ghost use Rattle.stamp_lines.specs.Tables.{requests_at, part_of, waiting_of};
 ghost use Rattle.stamp_lines.specs.Changes.{IsFresh, Same, Adds, Promises, Ends, Wakes};
 
 use crate::lines::{Lines, Waiter};
-use crate::parts::{Part, Parts};
 use crate::requests::Request;
 use control_core::PrepareNoMemory;
-use deneva_base::{Attempt, Key, NoMemory, RowList};
-use std::alloc::Global;
+use deneva_base::{Attempt, Key, NoMemory, Number, RowList};
+use row_store::Store;
+use shelf::{Ended, Shelf};
 
-/// The accesses by key and by attempt, and how many wait.
+/// The rows and what each attempt has here, the accesses by key, and how many wait.
 #[derive(Drop)]
 pub struct Accesses {
+    shelf: Shelf,
     lines: Lines,
-    parts: Parts,
     waiting: usize,
 }
 
 impl Accesses {
-    pub fn new(alloc: Global) -> Accesses
-        ensures { IsFresh result }
+    pub fn new(store: Store) -> Accesses
+        ensures { IsFresh store result }
     {
+        let alloc = store.allocator();
         Accesses {
+            shelf: Shelf::new(store),
             lines: Lines::new(alloc),
-            parts: Parts::new(alloc),
             waiting: 0,
         }
+    }
+
+    /// The rows, and what each attempt has here.
+    pub fn shelf(&self) -> &Shelf
+        ensures { result.now ≡ self.now.shelf }
+    {
+        &self.shelf
     }
 
     /// The requests for the key, by rising stamp.
@@ -37,13 +47,6 @@ impl Accesses {
         ensures { result.now ≡ requests_at self.now key }
     {
         self.lines.requests(key)
-    }
-
-    /// What an attempt has here.
-    pub fn part(&self, who: Attempt) -> Option<&Part>
-        ensures { holding_in (option_map (λ p. p.now) result) ≡ part_of self.now who }
-    {
-        self.parts.get(who)
     }
 
     /// How many requests wait.
@@ -76,7 +79,7 @@ impl Accesses {
         ensures err { OnErr result (Same self.old self.new) }
     {
         self.lines.add(key, request)?;
-        if let Err(refused) = self.parts.note(request.who, key, request.stamp) {
+        if let Err(refused) = self.shelf.note(request.who, request.stamp, key) {
             self.lines.end(key, request.who);
             return Err(refused);
         }
@@ -86,8 +89,8 @@ impl Accesses {
         Ok(())
     }
 
-    /// Keeps the rows that the attempt voted to commit. Where it finds no memory, or the attempt has nothing here, they are
-    /// handed back.
+    /// Keeps the rows that the attempt voted to commit, those that it writes twice, with room for those that it appends. If
+    /// there is no memory for that, they are handed back.
     pub fn promise(
         &mut self,
         who: Attempt,
@@ -98,17 +101,21 @@ impl Accesses {
         ensures err { OnErr result (Same self.old self.new) }
         ensures returned { IfErr result (λ e. (e.writes ≡ writes) × (e.appends ≡ appends)) }
     {
-        self.parts.promise(who, writes, appends)
+        self.shelf.promise_copied(who, writes, appends)
     }
 
-    /// Takes out the attempt and its requests.
-    pub fn end(&mut self, who: Attempt) -> Option<Part>
-        ensures part { holding_in result ≡ part_of self.old who }
-        ensures rest { Ends who self.old self.new }
+    /// Takes out the attempt and its requests. If there is a number, it commits, and its rows are written under it.
+    pub fn end(&mut self, who: Attempt, number: Option<Number>) -> Ended
+        requires present { (w : Keyed) → IsIn w (part_of self.old who).writes → has self.old.shelf.store w.key ≡ true }
+        requires promised { length (part_of self.old who).appends ≤ self.old.shelf.promised }
+        requires room { self.old.shelf.promised ≤ self.old.shelf.store.spare }
+        ensures keys { result.keys.items ≡ (part_of self.old who).keys }
+        ensures copies { result.copies ≡ (part_of self.old who).copies }
+        ensures rest { Ends who number self.old self.new }
     {
-        let part = self.parts.take(who)?;
-        self.lines.end_all(part.keys(), who);
-        Some(part)
+        let ended = self.shelf.end(who, number);
+        self.lines.end_all(&ended.keys, who);
+        ended
     }
 
     /// Grants these requests.

@@ -6,8 +6,8 @@ ghost use Rattle.stamp_lines.specs.Tables.{line_at, all_ended, all_granted, Sets
 
 use crate::requests::{Line, Request};
 use deneva_base::{Attempt, Key, Mode, NoMemory};
+use key_table::Table;
 use std::alloc::Global;
-use std::collections::HashMap;
 
 /// A request that waits, with its key.
 #[derive(Clone, Copy, Debug)]
@@ -21,8 +21,7 @@ pub struct Waiter {
 /// The requests for each key, by rising stamp.
 #[derive(Drop)]
 pub(crate) struct Lines {
-    alloc: Global,
-    lines: HashMap<Key, Line>,
+    lines: Table<Key, Line>,
 }
 
 impl Lines {
@@ -30,8 +29,7 @@ impl Lines {
         ensures { (key : Key) → line_at result key ≡ [] }
     {
         Lines {
-            alloc,
-            lines: HashMap::new(alloc),
+            lines: Table::new(alloc),
         }
     }
 
@@ -39,7 +37,7 @@ impl Lines {
     pub fn is_stopped(&self, key: Key, from: u64, stamp: u64) -> bool
         ensures { result ≡ is_stopped from stamp (line_at self.now key) }
     {
-        match self.lines.get(&key) {
+        match self.lines.get(key) {
             Some(line) => line.is_stopped(from, stamp),
             None => false,
         }
@@ -49,7 +47,7 @@ impl Lines {
     pub fn first_writer(&self, key: Key, from: u64, ended: Attempt) -> Option<u64>
         ensures { result ≡ first_writer from ended (line_at self.now key) }
     {
-        match self.lines.get(&key) {
+        match self.lines.get(key) {
             Some(line) => line.first_writer(from, ended),
             None => None,
         }
@@ -59,8 +57,8 @@ impl Lines {
     pub fn requests(&self, key: Key) -> &[Request]
         ensures { result.now ≡ line_at self.now key }
     {
-        match self.lines.get(&key) {
-            Some(line) => &line.requests,
+        match self.lines.get(key) {
+            Some(line) => line.requests(),
             None => &[],
         }
     }
@@ -70,20 +68,15 @@ impl Lines {
         ensures ok { OnOk result (SetsLine self.old key (put_request request (line_at self.old key)) self.new) }
         ensures err { OnErr result (SameLines self.old self.new) }
     {
-        if let Some(line) = self.lines.get_mut(&key) {
-            return line.add(request);
-        }
-        let mut line = Line::new(self.alloc);
-        line.add(request)?;
-        self.lines.insert(key, line)?;
-        Ok(())
+        let line = self.lines.slot(key)?;
+        line.add(request)
     }
 
     /// Takes out the attempt's request for the key.
     pub fn end(&mut self, key: Key, who: Attempt)
         ensures { SetsLine self.old key (without who (line_at self.old key)) self.new }
     {
-        if let Some(line) = self.lines.get_mut(&key) {
+        if let Some(line) = self.lines.get_mut(key) {
             line.end(who);
         }
     }
@@ -101,7 +94,7 @@ impl Lines {
     fn wake(&mut self, key: Key, who: Attempt)
         ensures { SetsLine self.old key (granted who (line_at self.old key)) self.new }
     {
-        if let Some(line) = self.lines.get_mut(&key) {
+        if let Some(line) = self.lines.get_mut(key) {
             line.wake(who);
         }
     }

@@ -1,10 +1,11 @@
 //! The requests for one key.
-ghost use Rattle.std.specs.Prelude.{◌≡◌, [], not, filter, map, OnOk, OnErr};
-ghost use Rattle.deneva_base.specs.Keys.{attempt_eq};
-ghost use Rattle.stamp_lines.specs.Requests.{put_request, is_stopped, stops, first_writer, is_writer, grants_to};
+ghost use Rattle.std.specs.Prelude.{◌≡◌, [], OnOk, OnErr};
+ghost use Rattle.stamp_lines.specs.Requests.{put_request, is_stopped, stops, first_writer, is_writer, grants_to, without, granted};
 
 use deneva_base::{Attempt, Mode, NoMemory};
+use key_table::Empty;
 use std::alloc::Global;
+use std::marker::Model;
 
 /// An access that an attempt asked for: it is granted, or it waits.
 #[derive(Clone, Copy, Debug)]
@@ -44,21 +45,38 @@ impl Request {
 /// The requests for a key, by rising stamp.
 #[derive(Drop)]
 pub(crate) struct Line {
-    pub requests: Vec<Request>,
+    requests: Vec<Request>,
 }
 
-impl Line {
-    pub fn new(alloc: Global) -> Line
-        ensures { result.requests.items ≡ [] }
-    {
+impl Model for Line {
+    ghost use Rattle.std.specs.Prelude.{List};
+    ghost use Rattle.stamp_lines.specs.declared.requests.Request.{Request};
+
+    ghost Value = { List Request };
+
+    ghost view = { λ l. l.requests.items };
+}
+
+impl Empty for Line {
+    ghost empty = { [] };
+
+    fn empty(alloc: Global) -> Line {
         Line {
             requests: Vec::new(alloc),
         }
     }
+}
+
+impl Line {
+    pub fn requests(&self) -> &[Request]
+        ensures { result.now ≡ self.now }
+    {
+        &self.requests
+    }
 
     /// Whether an access is granted that writes and has a stamp above `from` and below `stamp`.
     pub fn is_stopped(&self, from: u64, stamp: u64) -> bool
-        ensures { result ≡ is_stopped from stamp self.now.requests.items }
+        ensures { result ≡ is_stopped from stamp self.now }
     {
         for request in &self.requests {
             if request.stops(from, stamp) {
@@ -70,7 +88,7 @@ impl Line {
 
     /// The least stamp above `from` of an access that writes, granted or waiting, other than the ended attempt's.
     pub fn first_writer(&self, from: u64, ended: Attempt) -> Option<u64>
-        ensures { result ≡ first_writer from ended self.now.requests.items }
+        ensures { result ≡ first_writer from ended self.now }
     {
         for request in &self.requests {
             if request.is_writer(from, ended) {
@@ -82,8 +100,8 @@ impl Line {
 
     /// Puts a request in its place by stamp.
     pub fn add(&mut self, request: Request) -> Result<(), NoMemory>
-        ensures ok { OnOk result (self.new.requests.items ≡ put_request request self.old.requests.items) }
-        ensures err { OnErr result (self.new.requests.items ≡ self.old.requests.items) }
+        ensures ok { OnOk result (self.new ≡ put_request request self.old) }
+        ensures err { OnErr result (self.new ≡ self.old) }
     {
         let mut place = 0;
         while place < self.requests.len() && self.requests[place].stamp < request.stamp {
@@ -95,14 +113,14 @@ impl Line {
 
     /// Takes out an attempt's request.
     pub fn end(&mut self, who: Attempt)
-        ensures { self.new.requests.items ≡ filter (λ r. not (attempt_eq r.who who)) self.old.requests.items }
+        ensures { self.new ≡ without who self.old }
     {
         self.requests.retain(|request| request.who != who);
     }
 
     /// Grants an attempt's request.
     pub fn wake(&mut self, who: Attempt)
-        ensures { self.new.requests.items ≡ map (grants_to who) self.old.requests.items }
+        ensures { self.new ≡ granted who self.old }
     {
         for place in 0..self.requests.len() {
             let request = self.requests[place];

@@ -2,7 +2,7 @@ use Rattle.std.proofs.Common.{rules, ◌≡◌, sym, ap, ◌∙◌, cond, Some, 
 use Rattle.std.specs.Map.{lookup}
 use Rattle.std.specs.HashMap as table
 use Rattle.deneva_base.specs.declared.keys.Key.{Key}
-use Rattle.stamp_lines.specs.Tables.{same_key}
+use Rattle.key_table.specs.Keys.{same_key}
 use Rattle.stamp_control.specs.declared.pasts.Past.{Past}
 use Rattle.stamp_control.specs.Pasts.{Kept, past_in, past_of, Wider}
 use Rattle.stamp_control.proofs.Places.{wider_at}

@@ -3,7 +3,7 @@ use Rattle.std.proofs.lemmas.Result.{on_err_weaker, IfOk-weaker}
 use Rattle.protocol_rules.specs.History.{Ask}
 use Rattle.deneva_base.specs.declared.answers.Answer.{Answer}
 use Rattle.stamp_control.specs.Standing.{Tracks, state_of}
-use Rattle.stamp_control.proofs.Outcomes.{both}
+use Rattle.shelf.proofs.Closing.{both}
 use Rattle.stamp_control.proofs.Asking.{widened}
 use Rattle.stamp_control.proofs.Calls.{once, few, refused_is, refuse_tracks, wait_is, wait_tracks, grant_is, grant_tracks}
 use Rattle.stamp_control.proofs.stamps.StampsControl.ask.Goals as goal

@@ -2,15 +2,17 @@ use Rattle.std.proofs.Common.{refl, ◌++◌, ◌∙◌, ap, arith, List, length
 use Rattle.std.proofs.lemmas.List.{nil_from_length}
 use Rattle.std.proofs.lemmas.Result.{on_ok_weaker}
 use Rattle.protocol_rules.specs.History.{Asked}
-use Rattle.stamp_control.proofs.Calls.{present, promised, copies_distinct, spare, commit_few, commit_wakes, commit_tracks}
+use Rattle.protocol_rules.specs.Timestamp.{timestamp}
+use Rattle.shelf.proofs.Versions.{present, promised}
+use Rattle.stamp_control.proofs.Calls.{wk, copies_distinct, spare, commit_few, commit_wakes, commit_tracks}
 use Rattle.stamp_control.proofs.Idle.{nil_from_map}
 use Rattle.stamp_control.proofs.stamps.StampsControl.commit.Goals as goal
 
 pub end_and_wake-requires-clause-present : goal.end_and_wake-requires-clause-present
-end_and_wake-requires-clause-present c = let m = c.requires.may in present c.args.self.now.table m.0 m.1 m.2 c.args.who m.3.unended
+end_and_wake-requires-clause-present c = let m = c.requires.may in present (timestamp m.0) m.2.tracks.accesses.kept m.2.obeys (wk c.args.self.now.table m.0 m.1 m.2) c.args.who m.3.unended
 
 pub end_and_wake-requires-clause-promised : goal.end_and_wake-requires-clause-promised
-end_and_wake-requires-clause-promised c = let m = c.requires.may in promised c.args.self.now.table m.0 m.1 m.2 c.args.who m.3.unended
+end_and_wake-requires-clause-promised c = let m = c.requires.may in promised (timestamp m.0) m.2.tracks.accesses.kept m.2.obeys c.args.who m.3.unended
 
 pub end_and_wake-requires-clause-distinct : goal.end_and_wake-requires-clause-distinct
 end_and_wake-requires-clause-distinct c = let m = c.requires.may in copies_distinct c.args.self.now.table m.0 m.1 m.2 c.args.who m.3.unended

@@ -3,7 +3,7 @@ use Rattle.std.proofs.lemmas.Result.{on_err_weaker, IfOk-weaker}
 use Rattle.protocol_rules.specs.History.{Prepare}
 use Rattle.deneva_base.specs.declared.answers.Vote.{Vote}
 use Rattle.stamp_control.specs.Standing.{Tracks, state_of}
-use Rattle.stamp_control.proofs.Outcomes.{both}
+use Rattle.shelf.proofs.Closing.{both}
 use Rattle.stamp_control.proofs.Ending.{prepared_tracks, reserved_tracks}
 use Rattle.stamp_control.proofs.Calls.{vote_is}
 use Rattle.stamp_control.proofs.stamps.StampsControl.prepare.Goals as goal

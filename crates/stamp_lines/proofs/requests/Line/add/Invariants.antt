@@ -6,10 +6,10 @@ use Rattle.stamp_lines.proofs.requests.Line.add.Given as goal
 abbrev pub invariant-loop-place : goal.invariant-loop-place
 invariant-loop-place l =
     record {
-      requests : l.self ≡ l.fn.self;
-      bound : l.place ≤ length l.self.requests.items;
-      passed : put_request l.request l.self.requests.items ≡ take l.place l.self.requests.items ++ put_request l.request (drop l.place l.self.requests.items);
+      requests : l.self-inside.requests.items ≡ l.fn.self;
+      bound : l.place ≤ length l.self-inside.requests.items;
+      passed : put_request l.request l.self-inside.requests.items ≡ take l.place l.self-inside.requests.items ++ put_request l.request (drop l.place l.self-inside.requests.items);
     }
 
 abbrev pub decreases-loop-place : goal.decreases-loop-place
-decreases-loop-place l = length l.self.requests.items - l.place
+decreases-loop-place l = length l.self-inside.requests.items - l.place

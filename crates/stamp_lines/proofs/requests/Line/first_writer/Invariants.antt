@@ -4,4 +4,4 @@ use Rattle.stamp_lines.proofs.requests.Line.first_writer.Given as goal
 
 -- none so far is a writer
 abbrev pub invariant-loop-request : goal.invariant-loop-request
-invariant-loop-request l = first_writer l.from l.ended (drop l.request-index l.self.requests.items) ≡ first_writer l.from l.ended l.self.requests.items
+invariant-loop-request l = first_writer l.from l.ended (drop l.request-index l.self) ≡ first_writer l.from l.ended l.self

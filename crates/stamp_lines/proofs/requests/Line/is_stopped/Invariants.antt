@@ -4,4 +4,4 @@ use Rattle.stamp_lines.proofs.requests.Line.is_stopped.Given as goal
 
 -- none so far stops it
 abbrev pub invariant-loop-request : goal.invariant-loop-request
-invariant-loop-request l = is_stopped l.from l.stamp (drop l.request-index l.self.requests.items) ≡ is_stopped l.from l.stamp l.self.requests.items
+invariant-loop-request l = is_stopped l.from l.stamp (drop l.request-index l.self) ≡ is_stopped l.from l.stamp l.self
