@@ -57,23 +57,23 @@ same_once (x ∷ xs) ys one once into onto = go (split x ys (into x (inl refl)))
         = λ z. let a = ids-append z front (x ∷ back) in let o : ids_in z (front ++ x ∷ back) ≤ 1 = subst (λ l. ids_in z l ≤ 1) h.2 (once z) in omega (arith, a, o) in
         let gone : IsIn x (front ++ back) → ⊥
         = λ i.
-            let c : ids_in x front + (1 + ids_in x back) ≤ 1 = subst (λ b. ids_in x front + (cond b 1 0 + ids_in x back) ≤ 1) (self x.0) (counts x) in
-            let a = ids-append x front back in
-            let n = counted x (front ++ back) i in
-            omega (arith, c, a, n) in
+        let c : ids_in x front + (1 + ids_in x back) ≤ 1 = subst (λ b. ids_in x front + (cond b 1 0 + ids_in x back) ≤ 1) (self x.0) (counts x) in
+        let a = ids-append x front back in
+        let n = counted x (front ++ back) i in
+        omega (arith, c, a, n) in
         let less : (z : TxnId) → ids_in z (front ++ back) ≤ 1 = λ z. let c = counts z in let a = ids-append z front back in omega (arith, c, a) in
         let inside : (z : TxnId) → IsIn z xs → IsIn z (front ++ back)
         = λ z i.
-            ⊎_elim
-            (λ f. in_left z front back f)
-            (λ b. ⊎_elim (λ (e : z ≡ x). absurd (not_again (subst (λ y. IsIn y xs) e i))) (λ r. in_right z front back r) b)
-            (in_cases z front (x ∷ back) (subst (λ l. IsIn z l) h.2 (into z (inr i)))) in
+        ⊎_elim
+        (λ f. in_left z front back f)
+        (λ b. ⊎_elim (λ (e : z ≡ x). absurd (not_again (subst (λ y. IsIn y xs) e i))) (λ r. in_right z front back r) b)
+        (in_cases z front (x ∷ back) (subst (λ l. IsIn z l) h.2 (into z (inr i)))) in
         let outside : (z : TxnId) → IsIn z (front ++ back) → IsIn z xs
         = λ z i.
-            ⊎_elim
-            (λ (e : z ≡ x). absurd (gone (subst (λ y. IsIn y (front ++ back)) e i)))
-            (λ r. r)
-            (onto z (subst (λ l. IsIn z l) (sym h.2) (⊎_elim (λ f. in_left z front (x ∷ back) f) (λ b. in_right z front (x ∷ back) (inr b)) (in_cases z front back i)))) in
+        ⊎_elim
+        (λ (e : z ≡ x). absurd (gone (subst (λ y. IsIn y (front ++ back)) e i)))
+        (λ r. r)
+        (onto z (subst (λ l. IsIn z l) (sym h.2) (⊎_elim (λ f. in_left z front (x ∷ back) f) (λ b. in_right z front (x ∷ back) (inr b)) (in_cases z front back i)))) in
         subst (IsPermutation (x ∷ xs)) (sym h.2)
         (IsPermutation-trans _ _ _
         (IsPermutation-cons x _ _ (next (front ++ back) less inside outside))
