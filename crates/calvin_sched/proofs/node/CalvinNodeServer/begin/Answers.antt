@@ -1,11 +1,10 @@
-use Rattle.std.proofs.Common.{◌≡◌, ℕ, sym, ap, ap₂, ◌∙◌, ◌*◌, refl, map, length, replicate, Option, None, option_map, List}
+use Rattle.std.proofs.Common.{◌≡◌, ℕ, sym, ap, ap₂, ◌∙◌, ◌*◌, refl, map, length, replicate, Option, None, List}
 use Rattle.deneva_base.specs.declared.numbers.TxnId.{TxnId}
-use Rattle.row_store.specs.Stores.{loaded}
 use Rattle.txn_program.specs.Serial.{all_ids}
 use Rattle.server_core.specs.CalvinProper.{Valid}
 use Rattle.server_core.specs.Roles.{Role}
 use Rattle.server_core.specs.GlobalOrder.{epochs, number}
-use Rattle.server_core.specs.Setting.{Setting, setting, loaded_at, parts_for}
+use Rattle.server_core.specs.Setting.{Setting, setting, parts_for}
 use Rattle.server_core.proofs.configured.CalvinSettings as calvin
 use Rattle.server_core.specs.Roles.{role_of, setting_of}
 use Rattle.calvin_sched.proofs.Nodes.{batches_first, locks_first, arrivals_first, versions_first}
