@@ -1,5 +1,5 @@
 -- The accesses track the history with one more Prepare, and with the end of an attempt that wakes nobody.
-use Rattle.std.proofs.Common.{◌≡◌, ◌≢◌, ◌⊎◌, ℕ, List, [], ◌∷◌, filter, Bool, true, false, not, cond, length, refl, sym, ap, ◌∙◌, subst, inl, inr, ⊎_elim, Option, option_map}
+use Rattle.std.proofs.Common.{◌≡◌, ◌≢◌, ℕ, List, [], ◌∷◌, Bool, true, false, not, cond, length, refl, sym, ap, ◌∙◌, subst, inl, inr, ⊎_elim, Option, option_map}
 use Rattle.deneva_base.specs.declared.keys.Key.{Key}
 use Rattle.deneva_base.specs.declared.numbers.Attempt.{Attempt}
 use Rattle.deneva_base.specs.declared.numbers.Number.{Number}
@@ -9,13 +9,9 @@ use Rattle.deneva_base.specs.declared.answers.Vote.TheVariants.{Yes}
 use Rattle.deneva_base.specs.Lists.{IsIn}
 use Rattle.deneva_base.specs.Rows.{Rows}
 use Rattle.deneva_base.specs.Keys.{attempt_eq}
-use Rattle.protocol_rules.specs.Conditions.{MayPrepare, MayCommit, MayAbort}
-use Rattle.protocol_rules.specs.History.{Prepare, Commit, Abort, History, Asked, grants, waits, yeas, ended, closed, IsUnended, WaitsNowhere, is_woken}
-use Rattle.protocol_rules.specs.Latest.{writes_in}
+use Rattle.protocol_rules.specs.Conditions.{MayPrepare}
+use Rattle.protocol_rules.specs.History.{Prepare, History, Asked, yeas, IsUnended}
 use Rattle.deneva_base.proofs.Membership.{attempt_tells}
-use Rattle.protocol_rules.proofs.Sound.{Sound}
-use Rattle.protocol_rules.proofs.Known.{Known}
-use Rattle.control_core.proofs.Lasts.{appends_in}
 use Rattle.stamp_lines.specs.declared.requests.Request.{Request}
 use Rattle.stamp_lines.specs.declared.accesses.Accesses.{Accesses}
 use Rattle.stamp_lines.specs.Requests.{without}

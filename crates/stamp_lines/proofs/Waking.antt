@@ -7,13 +7,11 @@ use Rattle.deneva_base.specs.Lists.{IsIn, insert, sort}
 use Rattle.deneva_base.specs.Rows.{Rows}
 use Rattle.deneva_base.specs.Keys.{attempt_eq}
 use Rattle.protocol_rules.specs.History.{History, Asked, Grant, grant_of, grant_of_wake, grants, waits, yeas, ended, is_woken, IsUnended}
-use Rattle.protocol_rules.specs.Latest.{writes_in}
 use Rattle.protocol_rules.specs.Order.{by_rising_stamp}
 use Rattle.deneva_base.proofs.Membership.{in_cases, in_left, in_right, in_map, in_map_from, in_filter, filter_in, attempt_tells}
 use Rattle.protocol_rules.proofs.Known.{Known}
 use Rattle.protocol_rules.proofs.Sorts.{sort_in, in_sort}
 use Rattle.protocol_rules.proofs.Woken.{woken_in, in_woken, wake_grants, grant_wakes}
-use Rattle.control_core.proofs.Lasts.{appends_in}
 use Rattle.stamp_lines.specs.declared.requests.Request.{Request}
 use Rattle.stamp_lines.specs.declared.lines.Waiter.{Waiter}
 use Rattle.stamp_lines.specs.declared.accesses.Accesses.{Accesses}
