@@ -49,7 +49,7 @@ contains_from_in : {A : Type 0} (xs : List A) (x : A) → IsIn x xs → Contains
 contains_from_in [] x i = absurd i
 contains_from_in (y ∷ ys) x i = ⊎_elim (λ e. (zero, omega arith, sym e)) (λ r. let n = contains_from_in ys x r in (suc n.0, omega (arith, n.1), n.2)) i
 
-moved : (xs ys : List Decided) → IsPermutation xs ys → (l : Decided) → IsIn l xs → IsIn l ys
+pub moved : {A : Type 0} (xs ys : List A) → IsPermutation xs ys → (l : A) → IsIn l xs → IsIn l ys
 moved xs ys moves l i = in_from_contains ys l (Contains-permutation xs ys l moves (contains_from_in xs l i))
 
 apart_in : (x : TxnId) (ls : List Decided) → AllByRecursion (λ y. id_eq x y ≡ false) (map (λ (l : Decided). l.number.id) ls) → (l : Decided) → IsIn l ls → id_eq x l.number.id ≡ false

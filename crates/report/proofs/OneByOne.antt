@@ -1,5 +1,5 @@
 -- Transactions that are decided or given up, one after another.
-use Rattle.std.proofs.Common.{◌≡◌, ◌≢◌, ℕ, ◌+◌, ◌<◌, ◌≤◌, List, length, map, get_or, true, false, eqb, sym, ap, ◌∙◌, subst, inl, inr, ⊎_elim, arith}
+use Rattle.std.proofs.Common.{◌≡◌, ◌≢◌, ℕ, ◌+◌, ◌<◌, ◌≤◌, List, ◌++◌, length, map, get_or, true, false, eqb, sym, ap, ◌∙◌, subst, inl, inr, ⊎_elim, arith}
 use Rattle.std.proofs.Math.ListN.{get_or-map}
 use Rattle.std.proofs.lemmas.Bool.Decides.{eqb_tells}
 use Rattle.std.proofs.lemmas.List.{length-map, get_or_default}
@@ -15,23 +15,42 @@ use Rattle.server_core.specs.Outcome.{outcome}
 use Rattle.server_core.specs.Says.{IsQuiet}
 use Rattle.server_core.specs.declared.messages.Entry.{Entry}
 use Rattle.server_core.specs.declared.outcomes.Outcome.{Outcome}
+use Rattle.server_core.specs.declared.outcomes.Decided.{Decided}
+use Rattle.server_core.specs.declared.outcomes.Giveup.{Giveup}
+use Rattle.server_core.specs.IsSerial.{IsSerial}
+use Rattle.deneva_base.proofs.Membership.{in_cases, in_map_from}
 use Rattle.protocol_rules.proofs.Voting.{choice, votes_or_not}
-use Rattle.calvin_laws.proofs.Configured as ordered
 use Rattle.server_core.proofs.configured.Limiteds.{limits}
 use Rattle.server_core.proofs.configured.ValidSettings.{rule_served, valid}
 use Rattle.voting_laws.proofs.Voted as voted
+use Rattle.calvin_laws.proofs.Configured as ordered
+use Rattle.report.proofs.NumberOrder.{moved}
 use Rattle.report.specs.Outcomes.{IsOver, IsLeastOpen}
 use Rattle.report.specs.Stories.{Tells}
 use Rattle.server_core.specs.declared.role.Role.{Role}
 use Rattle.report.specs.declared.outcomes.stories.Story.{Story}
 use Rattle.report.proofs.Places.{id_at}
 
+abbrev decided_id : Decided → TxnId
+decided_id l = l.number.id
+
+abbrev given_id : Giveup → TxnId
+given_id g = g.id
+
+-- a serial outcome has each transaction of the workload
+pub all_of : (w : Workload) (o : Outcome) → IsSerial w o → (x : TxnId) → IsIn x (all_ids w) → IsOver o x
+all_of w o serial x i =
+    ⊎_elim
+    (λ d. let l = in_map_from decided_id x o.decided d in inl (l.0, l.1, sym l.2))
+    (λ u. let g = in_map_from given_id x o.giveups u in inr (g.0, g.1, sym g.2))
+    (in_cases x (map decided_id o.decided) (map given_id o.giveups) (moved (all_ids w) (map decided_id o.decided ++ map given_id o.giveups) serial.whole x i))
+
 -- in a quiet run each transaction is decided or given up
 pub all_over : (c : Config) (w : Workload) (H : List Entry) → IsConfig c → IsValid w → IsQuiet c w H → (x : TxnId) → IsIn x (all_ids w) → IsOver (outcome c w H) x
 all_over c w H config d run =
     ⊎_elim
     (λ v. let o = choice c.protocol v in voted.decided c w o.0 o.1 (valid c w config d v) (limits c w config d v) H (rule_served c.protocol v).waits run)
-    (λ is. (ordered.serial c w is config d H run).all)
+    (λ is. all_of w (outcome c w H) (ordered.serial c w is config d H run))
     (votes_or_not c.protocol)
 
 none_below : (w : Workload) (x : TxnId) → IsIn x (all_ids w) → x.0 ≤ 0 → ⊥
