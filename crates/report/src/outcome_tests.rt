@@ -1,6 +1,7 @@
 //! Outcomes of histories, worked out by hand.
 
 use super::*;
+use crate::texts::write_lines;
 use deneva_base::{
     Attempt, Bound, ByteList, Cause, Cell, CellList, Config, IdList, Key, Keyed, Mode, NoMemory,
     Number, Protocol, Row, RowList, TxnId,
@@ -199,7 +200,7 @@ fn a_commit_and_a_refusal(rt: HostRuntime) -> Result<(), Fail> {
     assert!(rt; valid(&work));
     let rows = one_row(alloc, 1, b'p')?;
     let outcome = outcome_of(alloc, ONE_PART, &work, history.as_slice(), rows)?;
-    let text = write_report(alloc, &outcome)?;
+    let text = write_lines(alloc, &outcome)?;
     assert_eq!(rt; text.as_slice(), LOCKED.as_bytes());
     Ok(())
 }
@@ -294,7 +295,7 @@ fn a_global_order(rt: HostRuntime) -> Result<(), Fail> {
     assert!(rt; valid(&work));
     let rows = RowList::new(alloc);
     let outcome = outcome_of(alloc, TWO_PARTS, &work, history.as_slice(), rows)?;
-    let text = write_report(alloc, &outcome)?;
+    let text = write_lines(alloc, &outcome)?;
     assert_eq!(rt; text.as_slice(), ORDERED.as_bytes());
     let open = undecided(alloc, TWO_PARTS, &work, history.as_slice())?;
     assert_eq!(rt; open, Some(TxnId(2)));

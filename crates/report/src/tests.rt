@@ -1,6 +1,7 @@
 //! Texts of outcomes, worked out by hand.
 
 use super::*;
+use crate::texts::write_lines;
 use deneva_base::{
     Attempt, ByteList, Cause, Cell, CellList, Key, Keyed, NoMemory, Number, Protocol, Row, RowList,
     TxnId,
@@ -214,7 +215,7 @@ fn mixed(alloc: Global) -> Result<Outcome, NoMemory> {
 fn reports_have_a_line_for_each_thing(rt: HostRuntime) -> Result<(), Fail> {
     let outcome = mixed(rt.alloc())?;
     assert_eq!(rt;
-        write_report(rt.alloc(), &outcome)?.as_slice(),
+        write_lines(rt.alloc(), &outcome)?.as_slice(),
         REPORT.as_bytes()
     );
     assert_eq!(rt;
@@ -239,7 +240,7 @@ fn heads_name_the_kind(rt: HostRuntime) -> Result<(), Fail> {
         let outcome = empty_outcome(rt.alloc(), kind, 16);
         let report = format!(in rt.alloc(); "deneva-report,1,{word},16\nend\n")?;
         assert_eq!(rt;
-            write_report(rt.alloc(), &outcome)?.as_slice(),
+            write_lines(rt.alloc(), &outcome)?.as_slice(),
             report.as_bytes()
         );
         let brief = format!(in rt.alloc(); "brief,{word},16,0,0,0,0,0\n")?;
@@ -271,7 +272,7 @@ fn a_serial_run_has_an_outcome(rt: HostRuntime) -> Result<(), Fail> {
         outcome.decided.get(0).number,
         Number { n: 3, id: TxnId(3) }
     );
-    let text = write_report(rt.alloc(), &outcome)?;
+    let text = write_lines(rt.alloc(), &outcome)?;
     let wanted =
         "deneva-report,1,serial,1\ncommit,3,3,12,0\nread,0.9.0.0,q\nrow,0.1.0.0,z\nrow,0.9.0.0,\n\
         row,1.7.0.0,w,-12\nrow,7.1.2.3\nend\n";

@@ -14,9 +14,8 @@ use std::alloc::Global;
 use txn_program::Verdict;
 
 /// The report of an outcome: its head, the decided transactions with what each read, those given up, the aborted
-/// attempts, the final rows, each in the order of a report, and `end`.
-pub fn write_report(alloc: Global, outcome: &Outcome) -> Result<ByteList, NoMemory>
-    requires { InReportOrder outcome.now }
+/// attempts, the final rows, each in the order that the outcome has them, and `end`.
+pub(crate) fn write_lines(alloc: Global, outcome: &Outcome) -> Result<ByteList, NoMemory>
     ensures { IfOk result (λ text. text ≡ report_text outcome.now) }
 {
     let mut text = ByteList::from_bytes(alloc, b"deneva-report,1")?;
@@ -29,6 +28,15 @@ pub fn write_report(alloc: Global, outcome: &Outcome) -> Result<ByteList, NoMemo
     push_rows(&mut text, "row", outcome.rows.as_slice())?;
     text.extend(b"end\n")?;
     Ok(text)
+}
+
+/// The report of an outcome: its head, the decided transactions with what each read, those given up, the aborted
+/// attempts, the final rows, each in the order of a report, and `end`.
+pub fn write_report(alloc: Global, outcome: &Outcome) -> Result<ByteList, NoMemory>
+    requires { InReportOrder outcome.now }
+    ensures { IfOk result (λ text. text ≡ report_text outcome.now) }
+{
+    write_lines(alloc, outcome)
 }
 
 /// How many of the transactions committed.
