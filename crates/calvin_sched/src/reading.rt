@@ -100,7 +100,7 @@ impl<'w> CalvinNode<'w> {
             rows: SentRows::of(self.role.alloc, self.reads(id, left)?)?,
         };
         let participants = self.role.participants(id)?;
-        self.role.push_to_all(mails, &msg, participants.as_slice())
+        mails.append(self.role.mails_to(participants.as_slice(), &msg)?)
     }
 
     /// Whether the rows that came for the transaction are those of all its participants but one.

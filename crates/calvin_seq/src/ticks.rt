@@ -75,8 +75,7 @@ impl<'w> Sequencer<'w> {
             seq: part,
             ids: self.batch(epoch)?,
         };
-        let mut mails = MailList::new(alloc);
-        self.role.push_to_all(&mut mails, &batch, &nodes)?;
+        let mut mails = self.role.mails_to(&nodes, &batch)?;
         if epoch + 1 < self.epochs {
             mails.push(Mail {
                 from: part,

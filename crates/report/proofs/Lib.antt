@@ -1,14 +1,2 @@
-pub mod Aborting
 pub mod Counts
-pub mod Finished
-pub mod Gathering
-pub mod Groups
-pub mod InFileOrder
 pub mod Lines
-pub mod Locals
-pub mod NumberOrder
-pub mod OneByOne
-pub mod OrderedLines
-pub mod Places
-pub mod Telling
-pub mod VotedOutcomes

@@ -1,11 +1,2 @@
-pub mod ByTransaction
-pub mod Counting
-pub mod Finishing
-pub mod Naming
-pub mod Outcomes
 pub mod Records
 pub mod ReportText
-pub mod GrantedRows
-pub mod Seen
-pub mod SerialOutcome
-pub mod Stories

@@ -1,5 +1,5 @@
 //! The fields of records.
-ghost use Rattle.std.specs.Prelude.{◌≡◌, ◌++◌, ◌∷◌, OnOk, map, decimal};
+ghost use Rattle.std.specs.Prelude.{◌≡◌, ◌++◌, ◌∷◌, OnOk, IfOk, map, decimal};
 ghost use Rattle.std.specs.List.{flat_map};
 ghost use Rattle.report.specs.ReportText as spec;
 ghost use Rattle.report.specs.ReportText.{key_text, attempt_text, parts_text};
@@ -15,22 +15,36 @@ fn push_number<I: Integer>(text: &mut ByteList, number: I) -> Result<(), NoMemor
     text.extend(Buffer::new().format(number).as_bytes())
 }
 
-/// Puts a comma and a field at the end of a text: the bytes as they are, which hold no comma, quote or line end. At
-/// want of memory the text may have a part of it.
-pub fn push_field(text: &mut ByteList, field: &[u8]) -> Result<(), NoMemory>
+/// Puts a comma and a field at the end of a text: the bytes as they are, which hold no comma, quote or line end.
+pub(crate) fn push_field(text: &mut ByteList, field: &[u8]) -> Result<(), NoMemory>
     ensures { OnOk result (text.new ≡ text.old ++ 44 ∷ field.now) }
 {
     text.extend(b",")?;
     text.extend(field)
 }
 
-/// Puts a comma and a number, in decimal digits, at the end of a text. At want of memory the text may have a part of
-/// it.
-pub fn push_number_field<I: Integer>(text: &mut ByteList, number: I) -> Result<(), NoMemory>
+/// Puts a comma and a number, in decimal digits, at the end of a text.
+pub(crate) fn push_number_field<I: Integer>(text: &mut ByteList, number: I) -> Result<(), NoMemory>
     ensures { OnOk result (text.new ≡ text.old ++ 44 ∷ I.text number) }
 {
     text.extend(b",")?;
     push_number(text, number)
+}
+
+/// The text with a comma and a field at its end: the bytes as they are, which hold no comma, quote or line end.
+pub fn with_field(mut text: ByteList, field: &[u8]) -> Result<ByteList, NoMemory>
+    ensures { IfOk result (λ longer. longer ≡ text ++ 44 ∷ field.now) }
+{
+    push_field(&mut text, field)?;
+    Ok(text)
+}
+
+/// The text with a comma and a number, in decimal digits, at its end.
+pub fn with_number_field<I: Integer>(mut text: ByteList, number: I) -> Result<ByteList, NoMemory>
+    ensures { IfOk result (λ longer. longer ≡ text ++ 44 ∷ I.text number) }
+{
+    push_number_field(&mut text, number)?;
+    Ok(text)
 }
 
 /// Puts a point and a number at the end.

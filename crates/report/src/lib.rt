@@ -5,19 +5,11 @@
 mod aborts;
 mod decided;
 mod fields;
-#[cfg(test)]
-mod outcome_tests;
-mod outcomes;
 mod rows;
-mod serial;
-mod serial_laws;
 #[cfg(test)]
 mod tests;
 mod texts;
 
-pub use fields::{push_field, push_number_field};
-pub use outcomes::{outcome_of, undecided};
-pub use serial::serial_outcome;
-pub use serial_laws::serial_outcomes_are_serial;
+pub use fields::{with_field, with_number_field};
 pub use server_core::{AbortLine, Decided, Giveup, Outcome, RunKind};
 pub use texts::{write_brief, write_report};

@@ -282,11 +282,11 @@ fn a_serial_run_has_an_outcome(rt: HostRuntime) -> Result<(), Fail> {
 
 #[test]
 fn fields_stand_behind_commas(rt: HostRuntime) -> Result<(), Fail> {
-    let mut text = ByteList::from_bytes(rt.alloc(), b"a")?;
-    push_field(&mut text, b"")?;
-    push_field(&mut text, b"bc")?;
-    push_number_field(&mut text, -40_i64)?;
-    push_number_field(&mut text, 0_u8)?;
+    let text = ByteList::from_bytes(rt.alloc(), b"a")?;
+    let text = with_field(text, b"")?;
+    let text = with_field(text, b"bc")?;
+    let text = with_number_field(text, -40_i64)?;
+    let text = with_number_field(text, 0_u8)?;
     assert_eq!(rt; text.as_slice(), b"a,,bc,-40,0".as_slice());
     Ok(())
 }

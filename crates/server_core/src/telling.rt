@@ -1,5 +1,5 @@
 //! How a node tells others.
-ghost use Rattle.std.specs.Prelude.{◌≡◌, ◌++◌, ℕ, take, OnOk, OnErr};
+ghost use Rattle.std.specs.Prelude.{◌≡◌, IfOk};
 ghost use Rattle.server_core.specs.Coordinator.{to_all};
 
 use crate::MailList;
@@ -8,12 +8,11 @@ use crate::role::Role;
 use deneva_base::{Copied, NoMemory};
 
 impl Role<'_> {
-    /// Puts mails of this node at the end, one with a copy of the message for each of these nodes. Where there is no memory
-    /// for all, only those of the first nodes are there.
-    pub fn push_to_all(&self, mails: &mut MailList, msg: &Msg, nodes: &[u8]) -> Result<(), NoMemory>
-        ensures ok { OnOk result (mails.new ≡ mails.old ++ to_all self.now.part msg.now nodes.now) }
-        ensures err { OnErr result ((n : ℕ) × (mails.new ≡ mails.old ++ to_all self.now.part msg.now (take n nodes.now))) }
+    /// The mails of this node with a copy of the message, one to each of these nodes, in their order.
+    pub fn mails_to(&self, nodes: &[u8], msg: &Msg) -> Result<MailList, NoMemory>
+        ensures { IfOk result (λ mails. mails ≡ to_all self.now.part msg.now nodes.now) }
     {
+        let mut mails = MailList::with_capacity(self.alloc, nodes.len())?;
         for node in nodes {
             mails.push(Mail {
                 from: self.part,
@@ -21,6 +20,6 @@ impl Role<'_> {
                 msg: msg.copied(self.alloc)?,
             })?;
         }
-        Ok(())
+        Ok(mails)
     }
 }

@@ -1,0 +1,12 @@
+pub mod Aborting
+pub mod Finished
+pub mod Gathering
+pub mod Groups
+pub mod InFileOrder
+pub mod Locals
+pub mod NumberOrder
+pub mod OneByOne
+pub mod OrderedLines
+pub mod Places
+pub mod Telling
+pub mod VotedOutcomes

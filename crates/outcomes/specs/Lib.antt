@@ -1,0 +1,9 @@
+pub mod ByTransaction
+pub mod Counting
+pub mod Finishing
+pub mod GrantedRows
+pub mod Naming
+pub mod Outcomes
+pub mod Seen
+pub mod SerialOutcome
+pub mod Stories

@@ -1,7 +1,0 @@
-use Rattle.std.proofs.Common.{◌≡◌, ◌++◌, take}
-use Rattle.server_core.specs.Coordinator.{to_all}
-use Rattle.server_core.proofs.role.Role.push_to_all.Given as goal
-
--- those so far are at the end
-abbrev pub invariant-loop-node : goal.invariant-loop-node
-invariant-loop-node l = l.mails ≡ l.fn.mails ++ to_all l.self.part l.msg (take l.node-index l.nodes)
