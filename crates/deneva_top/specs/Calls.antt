@@ -13,7 +13,7 @@ use Rattle.deneva_top.specs.Sources.{InputIs, IsReadUnless}
 use Rattle.deneva_top.specs.Words.{command_of}
 use Rattle.report.specs.Records.{Record, line_of}
 use Rattle.report.specs.ReportText.{report_text}
-use Rattle.outcomes.specs.SerialOutcome.{serial_outcome}
+use Rattle.run_outcomes.specs.SerialOutcome.{serial_outcome}
 use Rattle.replay.specs.Replayed.{Replays}
 use Rattle.replay.specs.declared.runs.Ran.{Ran}
 

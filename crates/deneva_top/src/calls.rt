@@ -17,9 +17,9 @@ use crate::words::{Command, command_of};
 use crate::workload_text::{ReadError, read_workload};
 use deneva_base::{ByteList, IdList, NoMemory, TxnId};
 use deneva_io::{Put, Sink, Source};
-use outcomes::{serial_outcome, serial_outcomes_are_serial};
 use replay::{Ran, replay};
 use report::write_report;
+use run_outcomes::{serial_outcome, serial_outcomes_are_serial};
 use std::alloc::Global;
 use txn_program::{ProgramList, Workload};
 

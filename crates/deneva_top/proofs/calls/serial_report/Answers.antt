@@ -1,7 +1,7 @@
 use Rattle.std.proofs.Common.{sym, ap, ◌∙◌, subst}
 use Rattle.txn_program.specs.Serial.{serial}
 use Rattle.server_core.specs.ReportOrder.{InReportOrder}
-use Rattle.outcomes.specs.SerialOutcome.{serial_outcome}
+use Rattle.run_outcomes.specs.SerialOutcome.{serial_outcome}
 use Rattle.deneva_top.proofs.Ids.{ids_known}
 use Rattle.deneva_top.proofs.calls.serial_report.Goals as goal
 

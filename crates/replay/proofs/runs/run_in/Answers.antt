@@ -13,7 +13,7 @@ use Rattle.server_core.specs.Setting.{setting}
 use Rattle.server_core.specs.Told.{IsTold}
 use Rattle.server_core.specs.declared.messages.Entry.{Entry}
 use Rattle.server_core.specs.declared.outcomes.Outcome.{Outcome}
-use Rattle.outcomes.specs.Outcomes.{with_rows}
+use Rattle.run_outcomes.specs.Outcomes.{with_rows}
 use Rattle.calvin_laws.proofs.Configured.{outcome_is}
 use Rattle.replay.proofs.Outcomes.{outcome_rows, ordered_outcome}
 use Rattle.replay.proofs.runs.run_in.Goals as goal

@@ -1,5 +1,0 @@
-use Rattle.std.proofs.Common.{length}
-use Rattle.outcomes.proofs.ballots.+all_voted.Given as goal
-
-abbrev pub decreases-all_voted : goal.decreases-all_voted
-decreases-all_voted l = length l.parts.now

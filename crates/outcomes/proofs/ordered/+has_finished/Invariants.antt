@@ -1,5 +1,0 @@
-use Rattle.std.proofs.Common.{length}
-use Rattle.outcomes.proofs.ordered.+has_finished.Given as goal
-
-abbrev pub decreases-has_finished : goal.decreases-has_finished
-decreases-has_finished l = length l.messages.now
