@@ -72,7 +72,7 @@ impl Answer {
 }
 
 /// Does on a workload what is asked.
-fn done(alloc: Global, job: &Command, work: &Workload) -> Result<Answer, NoMemory>
+fn carry_out(alloc: Global, job: &Command, work: &Workload) -> Result<Answer, NoMemory>
     requires valid { IsValid work.now }
     requires asked { (words : List (List ℕ)) × (command_of words ≡ Some job.now) }
     ensures status { IfOk result (λ a. a.status ≡ 0) }
@@ -105,7 +105,7 @@ fn answer_of<S: Source>(alloc: Global, words: &[String], source: &mut S) -> Resu
         return Answer::of(alloc, 2, b"fault,words\n");
     };
     match read_workload(alloc, source) {
-        Ok(work) => done(alloc, &job, &work),
+        Ok(work) => carry_out(alloc, &job, &work),
         Err(ReadError::NoMemory) => Err(NoMemory),
         Err(ReadError::Fault(fault)) => Ok(Answer {
             status: 3,

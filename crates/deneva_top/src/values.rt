@@ -28,7 +28,7 @@ fn after<'a>(prefix: &str, word: &'a str) -> Option<&'a str>
 }
 
 /// The schedule of a seed.
-fn seeded(text: &str) -> Option<Schedule>
+fn seed_schedule(text: &str) -> Option<Schedule>
     ensures { result ≡ option_map Seed (spelled.number 0 u64.MAX text.now) }
 {
     let seed = long_number_within(text.as_bytes(), 0, u64::MAX).ok()?;
@@ -63,7 +63,7 @@ pub fn schedule_of(alloc: Global, word: &str) -> Result<Option<Schedule>, NoMemo
         return Ok(Some(Schedule::Lifo));
     }
     if let Some(seed) = after("seed:", word) {
-        return Ok(seeded(seed));
+        return Ok(seed_schedule(seed));
     }
     let Some(list) = after("list:", word) else {
         return Ok(None);

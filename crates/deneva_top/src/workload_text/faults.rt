@@ -57,7 +57,7 @@ pub struct Flaw {
 }
 
 /// The number of a record or a field, as a fault holds it.
-fn capped(n: usize) -> u32
+fn fault_number(n: usize) -> u32
     ensures { result ≡ min n 4294967295 }
 {
     u32::try_from(n).unwrap_or(u32::MAX)
@@ -68,8 +68,8 @@ pub fn fault(record_no: usize, field_no: usize, kind: FaultKind) -> InputFault
     ensures { result ≡ grammar.fault record_no field_no kind }
 {
     InputFault {
-        record_no: capped(record_no),
-        field_no: capped(field_no),
+        record_no: fault_number(record_no),
+        field_no: fault_number(field_no),
         kind,
     }
 }

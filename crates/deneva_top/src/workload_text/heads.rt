@@ -29,7 +29,7 @@ pub fn flaw(field_no: usize, kind: FaultKind) -> Flaw
 }
 
 /// A flaw as the error of its record.
-pub fn flawed(field_no: usize, kind: FaultKind) -> RecordError
+pub fn flaw_error(field_no: usize, kind: FaultKind) -> RecordError
     ensures { result ≡ errors.Flawed (grammar.flaw field_no kind) }
 {
     RecordError::Flawed(flaw(field_no, kind))

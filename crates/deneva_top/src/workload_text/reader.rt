@@ -8,7 +8,7 @@ ghost use Rattle.deneva_top.specs.declared.workload_text.faults.FaultKind.TheVar
 
 use crate::ordered_rows::rows_in_order;
 use crate::workload_text::faults::{FaultKind, Flaw, RecordError};
-use crate::workload_text::heads::{Head, field, flaw, flawed, is_word, number_at};
+use crate::workload_text::heads::{Head, field, flaw, flaw_error, is_word, number_at};
 use crate::workload_text::records::split_fields;
 use crate::workload_text::said::Said;
 use crate::workload_text::steps::{Placed, steps_of};
@@ -78,7 +78,7 @@ fn first_repeated(alloc: Global, steps: &[Placed]) -> Result<Option<usize>, NoMe
 }
 
 /// The steps without the places of their keys.
-fn unplaced(alloc: Global, placed: Items<Placed>) -> Result<StepList, NoMemory>
+fn steps_alone(alloc: Global, placed: Items<Placed>) -> Result<StepList, NoMemory>
     ensures { IfOk result (λ steps. steps ≡ map (λ p. p.step) placed) }
 {
     let mut steps = StepList::new(alloc);
@@ -134,10 +134,10 @@ impl Reading {
         ensures { Gives result (grammar.row_from self.now.head (work_of self.now) (map (λ f. f.now) fields.now)) }
     {
         if !self.programs.is_empty() {
-            return Err(flawed(1, FaultKind::Kind));
+            return Err(flaw_error(1, FaultKind::Kind));
         }
         if fields.len() != 2 + usize::from(self.head.fields) {
-            return Err(flawed(0, FaultKind::Arity));
+            return Err(flaw_error(0, FaultKind::Arity));
         }
         let number = number_at(2, field(fields, 2), 0, u32::MAX)?;
         let row = texts_from(alloc, 3, &fields[2..])?;
@@ -150,21 +150,21 @@ impl Reading {
         ensures { Gives result (grammar.txn_of (work_of self.now) steps) }
     {
         if steps.is_empty() {
-            return Err(flawed(0, FaultKind::Arity));
+            return Err(flaw_error(0, FaultKind::Arity));
         }
         if let Some(place) = first_unknown(&self.rows, steps.as_slice()) {
-            return Err(flawed(place, FaultKind::UnknownKey));
+            return Err(flaw_error(place, FaultKind::UnknownKey));
         }
         if let Some(place) = first_repeated(alloc, steps.as_slice())? {
-            return Err(flawed(place, FaultKind::Repeated));
+            return Err(flaw_error(place, FaultKind::Repeated));
         }
         if steps.len() > STEP_LIMIT as usize {
-            return Err(flawed(0, too_many(STEP_LIMIT)));
+            return Err(flaw_error(0, too_many(STEP_LIMIT)));
         }
         if self.programs.len() >= TXN_LIMIT as usize {
-            return Err(flawed(0, too_many(TXN_LIMIT)));
+            return Err(flaw_error(0, too_many(TXN_LIMIT)));
         }
-        let steps = unplaced(alloc, steps)?;
+        let steps = steps_alone(alloc, steps)?;
         Ok(Said::Runs(Program::Ycsb(steps)))
     }
 
@@ -179,7 +179,7 @@ impl Reading {
     }
 
     /// What a record after the head says.
-    fn said(&self, alloc: Global, fields: &[&[u8]]) -> Result<Said, RecordError>
+    fn meaning(&self, alloc: Global, fields: &[&[u8]]) -> Result<Said, RecordError>
         requires word { 1 ≤ length fields.now }
         requires bound { length fields.now < 2 ^ 63 }
         ensures { Gives result (grammar.said_by self.now.head (work_of self.now) (map (λ f. f.now) fields.now)) }
@@ -193,7 +193,7 @@ impl Reading {
             let said = end_of(fields)?;
             Ok(said)
         } else {
-            Err(flawed(1, FaultKind::Kind))
+            Err(flaw_error(1, FaultKind::Kind))
         }
     }
 
@@ -240,7 +240,7 @@ impl Reading {
         ensures head { self.new.head ≡ self.old.head }
     {
         let fields = split_fields(alloc, line)?;
-        let said = self.said(alloc, &fields)?;
+        let said = self.meaning(alloc, &fields)?;
         let progress = self.add(said)?;
         Ok(progress)
     }

@@ -4,7 +4,7 @@ ghost use Rattle.deneva_top.specs.Gives.{Gives};
 ghost use Rattle.deneva_top.specs.Grammar as grammar;
 
 use crate::workload_text::faults::{FaultKind, RecordError};
-use crate::workload_text::heads::{Format, Head, field, flawed, is_word, number_at};
+use crate::workload_text::heads::{Format, Head, field, flaw_error, is_word, number_at};
 use crate::workload_text::texts::{text_at, texts_from};
 use deneva_base::Items;
 use std::alloc::Global;
@@ -103,10 +103,10 @@ pub fn steps_of(alloc: Global, head: Head, txn: &[&[u8]]) -> Result<Items<Placed
         let word = txn[at];
         let more = &txn[at + 1..];
         let Some(width) = width_of(head, word) else {
-            return Err(flawed(at + 1, FaultKind::Kind));
+            return Err(flaw_error(at + 1, FaultKind::Kind));
         };
         if more.len() < width {
-            return Err(flawed(0, FaultKind::Arity));
+            return Err(flaw_error(0, FaultKind::Arity));
         }
         let step = step_of(alloc, head, at + 1, word, &more[..width])?;
         steps.push(step)?;

@@ -4,7 +4,7 @@ ghost use Rattle.deneva_top.specs.Gives.{Gives};
 ghost use Rattle.deneva_top.specs.Grammar as grammar;
 
 use crate::workload_text::faults::{FaultKind, RecordError};
-use crate::workload_text::heads::flawed;
+use crate::workload_text::heads::flaw_error;
 use deneva_base::{ByteList, Cell, CellList, Row};
 use std::alloc::Global;
 
@@ -13,7 +13,7 @@ pub fn text_at(alloc: Global, field_no: usize, field: &[u8]) -> Result<ByteList,
     ensures { Gives result (grammar.text_at field_no field.now) }
 {
     if field.len() > 100 {
-        return Err(flawed(field_no, FaultKind::OutOfRange));
+        return Err(flaw_error(field_no, FaultKind::OutOfRange));
     }
     let text = ByteList::from_bytes(alloc, field)?;
     Ok(text)

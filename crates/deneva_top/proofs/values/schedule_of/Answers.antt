@@ -13,4 +13,4 @@ returns-in-Some c =
     let seed = follows _ _ _ c.in-Some.ensures in
     let not_fifo : bytes_eq c.args.word.now (codes "fifo") ≡ false = search rules in
     let not_lifo : bytes_eq c.args.word.now (codes "lifo") ≡ false = search rules in
-    rw (not_fifo, not_lifo, seed.0) (rw seed.1 at c.seeded.ensures)
+    rw (not_fifo, not_lifo, seed.0) (rw seed.1 at c.seed_schedule.ensures)

@@ -13,5 +13,5 @@ some_field fields line e =
     let split = length-slice_split (λ b. eqb b 44) line in
     omega (arith, same, seen, split)
 
-pub said-requires-clause-word : goal.said-requires-clause-word
-said-requires-clause-word c = rw c.deref.ensures.value (some_field c.in_ok-fields.fields.items c.args.line.now c.in_ok-fields.ensures)
+pub meaning-requires-clause-word : goal.meaning-requires-clause-word
+meaning-requires-clause-word c = rw c.deref.ensures.value (some_field c.in_ok-fields.fields.items c.args.line.now c.in_ok-fields.ensures)

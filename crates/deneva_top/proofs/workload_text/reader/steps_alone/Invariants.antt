@@ -1,5 +1,5 @@
 use Rattle.std.proofs.Common.{◌≡◌, ◌++◌, map}
-use Rattle.deneva_top.proofs.workload_text.reader.unplaced.Given as goal
+use Rattle.deneva_top.proofs.workload_text.reader.steps_alone.Given as goal
 
 -- the steps so far and those that are left
 abbrev pub invariant-loop-one : goal.invariant-loop-one
