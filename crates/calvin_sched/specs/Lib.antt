@@ -6,5 +6,6 @@ pub mod Versions
 pub mod Asked
 pub mod Reading
 pub mod Standing
+pub mod Hearing
 pub mod Freed
 pub mod Known

@@ -1,14 +1,12 @@
 //! What a node says on batches and rows, and what it keeps of them.
-ghost use Rattle.std.specs.Prelude.{◌≡◌, ◌++◌, ◌∷◌, [], List, filter, ◌&&◌, true, None, IfOk, OnOk, OnErr};
+ghost use Rattle.std.specs.Prelude.{◌≡◌, ◌++◌, ◌∷◌, [], filter, ◌&&◌, true, None, IfOk, OnOk, OnErr};
 ghost use Rattle.std.specs.List.{flat_map};
 ghost use Rattle.deneva_base.specs.Lists.{IsIn};
 ghost use Rattle.deneva_base.specs.declared.numbers.TxnId as txns;
 ghost use Rattle.row_store.specs.Stores.{row_in};
 ghost use Rattle.txn_program.specs.Serial.{all_ids};
 ghost use Rattle.server_core.specs.Calvin.{says, finished_mail};
-ghost use Rattle.server_core.specs.CalvinFits.{Suits};
 ghost use Rattle.server_core.specs.CalvinScheduler.{takes_part};
-ghost use Rattle.server_core.specs.declared.messages.Msg as messages;
 ghost use Rattle.server_core.specs.declared.messages.Msg.TheVariants as msg;
 ghost use Rattle.calvin_sched.specs.Arrivals.{arrivals_at};
 ghost use Rattle.calvin_sched.specs.Asked.{all_free};
@@ -16,8 +14,8 @@ ghost use Rattle.calvin_sched.specs.Freed.{freed_by, put_numbers};
 ghost use Rattle.calvin_sched.specs.Known.{HasNumbers, AreKnown};
 ghost use Rattle.server_core.specs.Roles.{setting_of};
 ghost use Rattle.calvin_sched.specs.Reading.{row_after, mails_after, is_complete};
-ghost use Rattle.calvin_sched.specs.Standing.{CalvinStands};
 ghost use Rattle.calvin_sched.specs.Tables.{queue_at};
+ghost use Rattle.calvin_sched.specs.Hearing.{IsFitting, SaysOn, StandsWith, StandsStill};
 
 use crate::node::CalvinNode;
 use crate::rows::put_left;
@@ -46,12 +44,12 @@ impl<'w> CalvinNode<'w> {
         ids: &IdList,
         out: &mut Outbox,
     ) -> Result<(), NoMemory>
-        requires fits { (ms : List messages.Msg) × CalvinStands self.old ms × Suits (setting_of self.old.role) self.old.role.part seq (msg.Batch epoch seq ids.now) ms }
+        requires fits { IsFitting self.old seq (msg.Batch epoch seq ids.now) }
         ensures role { self.new.role ≡ self.old.role }
-        ensures says { OnOk result ((ms : List messages.Msg) → CalvinStands self.old ms → Suits (setting_of self.old.role) self.old.role.part seq (msg.Batch epoch seq ids.now) ms → out.new.mails ≡ out.old.mails ++ says (setting_of self.old.role) self.old.role.part (msg.Batch epoch seq ids.now ∷ ms)) }
-        ensures stands { OnOk result ((ms : List messages.Msg) → CalvinStands self.old ms → Suits (setting_of self.old.role) self.old.role.part seq (msg.Batch epoch seq ids.now) ms → CalvinStands self.new (msg.Batch epoch seq ids.now ∷ ms)) }
+        ensures says { OnOk result (SaysOn self.old seq (msg.Batch epoch seq ids.now) out.old.mails out.new.mails) }
+        ensures stands { OnOk result (StandsWith self.old seq (msg.Batch epoch seq ids.now) self.new) }
         ensures same_mails { OnErr result (out.new.mails ≡ out.old.mails) }
-        ensures same { OnErr result ((ms : List messages.Msg) → CalvinStands self.old ms → CalvinStands self.new ms) }
+        ensures same { OnErr result (StandsStill self.old self.new) }
     {
         let slot = epoch as usize * usize::from(self.role.config.parts) + usize::from(seq);
         let kept = ids.copy(self.role.alloc)?;
@@ -100,13 +98,13 @@ impl<'w> CalvinNode<'w> {
         rows: &SentRows,
         out: &mut Outbox,
     ) -> Result<(), NoMemory>
-        requires fits { (ms : List messages.Msg) × CalvinStands self.old ms × Suits (setting_of self.old.role) self.old.role.part part (msg.Rows id part rows.now) ms }
+        requires fits { IsFitting self.old part (msg.Rows id part rows.now) }
         requires complete { is_complete (setting_of self.old.role) (arrivals_at self.old.arrivals id) part id ≡ true }
         ensures role { self.new.role ≡ self.old.role }
-        ensures says { OnOk result ((ms : List messages.Msg) → CalvinStands self.old ms → Suits (setting_of self.old.role) self.old.role.part part (msg.Rows id part rows.now) ms → out.new.mails ≡ out.old.mails ++ says (setting_of self.old.role) self.old.role.part (msg.Rows id part rows.now ∷ ms)) }
-        ensures stands { OnOk result ((ms : List messages.Msg) → CalvinStands self.old ms → Suits (setting_of self.old.role) self.old.role.part part (msg.Rows id part rows.now) ms → CalvinStands self.new (msg.Rows id part rows.now ∷ ms)) }
+        ensures says { OnOk result (SaysOn self.old part (msg.Rows id part rows.now) out.old.mails out.new.mails) }
+        ensures stands { OnOk result (StandsWith self.old part (msg.Rows id part rows.now) self.new) }
         ensures same_mails { OnErr result (out.new.mails ≡ out.old.mails) }
-        ensures same { OnErr result ((ms : List messages.Msg) → CalvinStands self.old ms → CalvinStands self.new ms) }
+        ensures same { OnErr result (StandsStill self.old self.new) }
     {
         let number = self.number(id);
         let here = self.role.accesses_here(id)?;
@@ -129,12 +127,12 @@ impl<'w> CalvinNode<'w> {
         rows: &SentRows,
         out: &mut Outbox,
     ) -> Result<(), NoMemory>
-        requires fits { (ms : List messages.Msg) × CalvinStands self.old ms × Suits (setting_of self.old.role) self.old.role.part part (msg.Rows id part rows.now) ms }
+        requires fits { IsFitting self.old part (msg.Rows id part rows.now) }
         ensures role { self.new.role ≡ self.old.role }
-        ensures says { OnOk result ((ms : List messages.Msg) → CalvinStands self.old ms → Suits (setting_of self.old.role) self.old.role.part part (msg.Rows id part rows.now) ms → out.new.mails ≡ out.old.mails ++ says (setting_of self.old.role) self.old.role.part (msg.Rows id part rows.now ∷ ms)) }
-        ensures stands { OnOk result ((ms : List messages.Msg) → CalvinStands self.old ms → Suits (setting_of self.old.role) self.old.role.part part (msg.Rows id part rows.now) ms → CalvinStands self.new (msg.Rows id part rows.now ∷ ms)) }
+        ensures says { OnOk result (SaysOn self.old part (msg.Rows id part rows.now) out.old.mails out.new.mails) }
+        ensures stands { OnOk result (StandsWith self.old part (msg.Rows id part rows.now) self.new) }
         ensures same_mails { OnErr result (out.new.mails ≡ out.old.mails) }
-        ensures same { OnErr result ((ms : List messages.Msg) → CalvinStands self.old ms → CalvinStands self.new ms) }
+        ensures same { OnErr result (StandsStill self.old self.new) }
     {
         if self.is_complete(id) {
             self.finish(id, part, rows, out)

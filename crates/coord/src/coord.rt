@@ -1,21 +1,22 @@
 //! The coordinator of a node's home transactions.
-ghost use Rattle.std.specs.Prelude.{◌≡◌, ◌++◌, ◌∷◌, [], ◌<◌, ◌≤◌, ◌^◌, ℕ, List, not, cond, ltb, length, slice_get, IfOk, OnOk, OnErr, Some, None, true, ◌+◌};
+ghost use Rattle.std.specs.Prelude.{◌≡◌, ◌++◌, [], ◌<◌, ◌≤◌, ◌^◌, ℕ, List, not, ltb, length, slice_get, IfOk, OnOk, OnErr, Some, None, true, ◌+◌};
 ghost use Rattle.deneva_base.specs.Lists.{IsIn};
 ghost use Rattle.txn_program.specs.Serial.{all_ids};
 ghost use Rattle.txn_program.specs.Valid.{IsValid};
 ghost use Rattle.server_core.specs.Configs.{IsConfig};
 ghost use Rattle.protocol_rules.specs.Protocols.{IsVoting};
-ghost use Rattle.server_core.specs.Coordinator.{coordinator, mail_start, ask_of};
+ghost use Rattle.server_core.specs.Coordinator.{coordinator, mail_start};
 ghost use Rattle.server_core.specs.Roles.{FitsRole, setting_of};
 ghost use Rattle.server_core.specs.Setting.{setting};
 ghost use Rattle.server_core.specs.Small.{SmallCause};
 ghost use Rattle.server_core.specs.Stamps as stamps;
 ghost use Rattle.server_core.specs.declared.messages.Msg as messages;
 ghost use Rattle.coord.specs.Moves.{Moved, Same, draws, stamp_for, started_by, counted_by};
-ghost use Rattle.coord.specs.Open.{state_at, WithState};
+ghost use Rattle.coord.specs.Open.{WithState};
 ghost use Rattle.coord.specs.Standing.{role_of, Coordinates};
 ghost use Rattle.coord.specs.States as states;
 ghost use Rattle.coord.specs.States.{if_none_left, undone_mails, refused_mails, risen, without};
+ghost use Rattle.server_core.specs.Hearing.{IsFitting, StandsWith, StandsStill};
 
 use crate::attempts::Attempting;
 use crate::ballots::Ballot;
@@ -197,12 +198,12 @@ impl<'w> Coord<'w> {
     /// Handles a message: what the coordinator says goes to the end of `out`. It has nothing to say to those of participants.
     /// Want of memory leaves the coordinator and the mails as they were.
     pub fn step(&mut self, msg: &Msg, out: &mut Outbox) -> Result<(), NoMemory>
-        requires fits { (from : ℕ) × ((ms : List messages.Msg) × (Coordinates self.old ms × FitsRole (role_of self.old) from msg.now ms)) }
+        requires fits { (from : ℕ) × IsFitting (Coordinates self.old) (role_of self.old) from msg.now }
         ensures role { role_of self.new ≡ role_of self.old }
         ensures says { OnOk result ((from : ℕ) (ms : List messages.Msg) → Coordinates self.old ms → FitsRole (role_of self.old) from msg.now ms → out.new.mails ≡ out.old.mails ++ coordinator (setting (role_of self.old).config (role_of self.old).work) (role_of self.old).part msg.now ms) }
-        ensures stands { OnOk result ((from : ℕ) (ms : List messages.Msg) → Coordinates self.old ms → FitsRole (role_of self.old) from msg.now ms → Coordinates self.new (msg.now ∷ ms)) }
+        ensures stands { OnOk result ((from : ℕ) → StandsWith (Coordinates self.old) (role_of self.old) from msg.now (Coordinates self.new)) }
         ensures same_mails { OnErr result (out.new.mails ≡ out.old.mails) }
-        ensures same { OnErr result ((ms : List messages.Msg) → Coordinates self.old ms → Coordinates self.new ms) }
+        ensures same { OnErr result (StandsStill (Coordinates self.old) (Coordinates self.new)) }
     {
         match msg {
             Msg::Start { who } => self.start(*who, out),

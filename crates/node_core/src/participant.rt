@@ -1,8 +1,9 @@
 //! The partition's side of a node.
-ghost use Rattle.std.specs.Prelude.{◌≡◌, ◌++◌, ◌∷◌, ℕ, List, OnOk, OnErr};
-ghost use Rattle.server_core.specs.Roles.{Role, FitsRole, said_by};
+ghost use Rattle.std.specs.Prelude.{◌≡◌, ℕ, List, OnOk, OnErr};
+ghost use Rattle.server_core.specs.Roles.{Role};
 ghost use Rattle.server_core.specs.declared.messages.Msg as messages;
 ghost use Rattle.server_core.specs.declared.messages.Msg.TheVariants as msg;
+ghost use Rattle.server_core.specs.Hearing.{IsFitting, SaysOn, StandsWith, StandsStill};
 
 use deneva_base::{Attempt, Bound, Key, Mode, NoMemory, Number, RowList};
 use server_core::Outbox;
@@ -25,12 +26,12 @@ pub(crate) trait Participant: Sized + Drop {
         mode: Mode,
         out: &mut Outbox,
     ) -> Result<(), NoMemory>
-        requires fits { (from : ℕ) × (ms : List messages.Msg) × Self.stands self.old ms × FitsRole (Self.role self.old) from (msg.Ask who stamp key mode) ms }
+        requires fits { (from : ℕ) × IsFitting (Self.stands self.old) (Self.role self.old) from (msg.Ask who stamp key mode) }
         ensures role { Self.role self.new ≡ Self.role self.old }
-        ensures says { OnOk result ((from : ℕ) (ms : List messages.Msg) → Self.stands self.old ms → FitsRole (Self.role self.old) from (msg.Ask who stamp key mode) ms → out.new.mails ≡ out.old.mails ++ said_by (Self.role self.old) (msg.Ask who stamp key mode ∷ ms)) }
-        ensures stands { OnOk result ((from : ℕ) (ms : List messages.Msg) → Self.stands self.old ms → FitsRole (Self.role self.old) from (msg.Ask who stamp key mode) ms → Self.stands self.new (msg.Ask who stamp key mode ∷ ms)) }
+        ensures says { OnOk result ((from : ℕ) → SaysOn (Self.stands self.old) (Self.role self.old) from (msg.Ask who stamp key mode) out.old.mails out.new.mails) }
+        ensures stands { OnOk result ((from : ℕ) → StandsWith (Self.stands self.old) (Self.role self.old) from (msg.Ask who stamp key mode) (Self.stands self.new)) }
         ensures same_mails { OnErr result (out.new.mails ≡ out.old.mails) }
-        ensures same { OnErr result ((ms : List messages.Msg) → Self.stands self.old ms → Self.stands self.new ms) };
+        ensures same { OnErr result (StandsStill (Self.stands self.old) (Self.stands self.new)) };
 
     /// Has the control vote on copies of the rows, and tells the attempt's home the vote.
     fn hear_prepare(
@@ -41,12 +42,12 @@ pub(crate) trait Participant: Sized + Drop {
         appends: &RowList,
         out: &mut Outbox,
     ) -> Result<(), NoMemory>
-        requires fits { (from : ℕ) × (ms : List messages.Msg) × Self.stands self.old ms × FitsRole (Self.role self.old) from (msg.Prepare who bound writes.now appends.now) ms }
+        requires fits { (from : ℕ) × IsFitting (Self.stands self.old) (Self.role self.old) from (msg.Prepare who bound writes.now appends.now) }
         ensures role { Self.role self.new ≡ Self.role self.old }
-        ensures says { OnOk result ((from : ℕ) (ms : List messages.Msg) → Self.stands self.old ms → FitsRole (Self.role self.old) from (msg.Prepare who bound writes.now appends.now) ms → out.new.mails ≡ out.old.mails ++ said_by (Self.role self.old) (msg.Prepare who bound writes.now appends.now ∷ ms)) }
-        ensures stands { OnOk result ((from : ℕ) (ms : List messages.Msg) → Self.stands self.old ms → FitsRole (Self.role self.old) from (msg.Prepare who bound writes.now appends.now) ms → Self.stands self.new (msg.Prepare who bound writes.now appends.now ∷ ms)) }
+        ensures says { OnOk result ((from : ℕ) → SaysOn (Self.stands self.old) (Self.role self.old) from (msg.Prepare who bound writes.now appends.now) out.old.mails out.new.mails) }
+        ensures stands { OnOk result ((from : ℕ) → StandsWith (Self.stands self.old) (Self.role self.old) from (msg.Prepare who bound writes.now appends.now) (Self.stands self.new)) }
         ensures same_mails { OnErr result (out.new.mails ≡ out.old.mails) }
-        ensures same { OnErr result ((ms : List messages.Msg) → Self.stands self.old ms → Self.stands self.new ms) };
+        ensures same { OnErr result (StandsStill (Self.stands self.old) (Self.stands self.new)) };
 
     /// Commits an attempt, and tells its home, and then the homes of those that this wakes.
     fn hear_commit(
@@ -55,19 +56,19 @@ pub(crate) trait Participant: Sized + Drop {
         number: Number,
         out: &mut Outbox,
     ) -> Result<(), NoMemory>
-        requires fits { (from : ℕ) × (ms : List messages.Msg) × Self.stands self.old ms × FitsRole (Self.role self.old) from (msg.Commit who number) ms }
+        requires fits { (from : ℕ) × IsFitting (Self.stands self.old) (Self.role self.old) from (msg.Commit who number) }
         ensures role { Self.role self.new ≡ Self.role self.old }
-        ensures says { OnOk result ((from : ℕ) (ms : List messages.Msg) → Self.stands self.old ms → FitsRole (Self.role self.old) from (msg.Commit who number) ms → out.new.mails ≡ out.old.mails ++ said_by (Self.role self.old) (msg.Commit who number ∷ ms)) }
-        ensures stands { OnOk result ((from : ℕ) (ms : List messages.Msg) → Self.stands self.old ms → FitsRole (Self.role self.old) from (msg.Commit who number) ms → Self.stands self.new (msg.Commit who number ∷ ms)) }
+        ensures says { OnOk result ((from : ℕ) → SaysOn (Self.stands self.old) (Self.role self.old) from (msg.Commit who number) out.old.mails out.new.mails) }
+        ensures stands { OnOk result ((from : ℕ) → StandsWith (Self.stands self.old) (Self.role self.old) from (msg.Commit who number) (Self.stands self.new)) }
         ensures same_mails { OnErr result (out.new.mails ≡ out.old.mails) }
-        ensures same { OnErr result ((ms : List messages.Msg) → Self.stands self.old ms → Self.stands self.new ms) };
+        ensures same { OnErr result (StandsStill (Self.stands self.old) (Self.stands self.new)) };
 
     /// Aborts an attempt, and tells its home, and then the homes of those that this wakes.
     fn hear_abort(&mut self, who: Attempt, out: &mut Outbox) -> Result<(), NoMemory>
-        requires fits { (from : ℕ) × (ms : List messages.Msg) × Self.stands self.old ms × FitsRole (Self.role self.old) from (msg.Abort who) ms }
+        requires fits { (from : ℕ) × IsFitting (Self.stands self.old) (Self.role self.old) from (msg.Abort who) }
         ensures role { Self.role self.new ≡ Self.role self.old }
-        ensures says { OnOk result ((from : ℕ) (ms : List messages.Msg) → Self.stands self.old ms → FitsRole (Self.role self.old) from (msg.Abort who) ms → out.new.mails ≡ out.old.mails ++ said_by (Self.role self.old) (msg.Abort who ∷ ms)) }
-        ensures stands { OnOk result ((from : ℕ) (ms : List messages.Msg) → Self.stands self.old ms → FitsRole (Self.role self.old) from (msg.Abort who) ms → Self.stands self.new (msg.Abort who ∷ ms)) }
+        ensures says { OnOk result ((from : ℕ) → SaysOn (Self.stands self.old) (Self.role self.old) from (msg.Abort who) out.old.mails out.new.mails) }
+        ensures stands { OnOk result ((from : ℕ) → StandsWith (Self.stands self.old) (Self.role self.old) from (msg.Abort who) (Self.stands self.new)) }
         ensures same_mails { OnErr result (out.new.mails ≡ out.old.mails) }
-        ensures same { OnErr result ((ms : List messages.Msg) → Self.stands self.old ms → Self.stands self.new ms) };
+        ensures same { OnErr result (StandsStill (Self.stands self.old) (Self.stands self.new)) };
 }

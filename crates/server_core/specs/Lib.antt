@@ -44,3 +44,4 @@ pub mod ActiveList
 pub mod GreatestRows
 pub mod Outgoing
 pub mod Roles
+pub mod Hearing

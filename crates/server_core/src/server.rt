@@ -1,5 +1,5 @@
 //! Nodes.
-ghost use Rattle.std.specs.Prelude.{◌≡◌, ◌≢◌, ◌++◌, [], ◌∷◌, ◌≤◌, ◌<◌, true, ℕ, List, length, None, IfOk, OnOk, OnErr};
+ghost use Rattle.std.specs.Prelude.{◌≡◌, ◌≢◌, [], ◌≤◌, ◌<◌, true, ℕ, List, length, None, IfOk, OnOk, OnErr};
 ghost use Rattle.deneva_base.specs.Lists.{IsIn};
 ghost use Rattle.deneva_base.specs.Partitions.{partition_of};
 ghost use Rattle.deneva_base.specs.Rising.{keys_rise};
@@ -13,12 +13,13 @@ ghost use Rattle.server_core.specs.Configs.{IsConfig};
 ghost use Rattle.server_core.specs.Fits.{AllFitting};
 ghost use Rattle.server_core.specs.NodeRows.{rows_of_node};
 ghost use Rattle.server_core.specs.Picks.{most_entries};
-ghost use Rattle.server_core.specs.Roles.{Role, FitsRole, said_by, rows_of_role};
+ghost use Rattle.server_core.specs.Roles.{Role, rows_of_role};
 ghost use Rattle.server_core.specs.Runs.{heard};
 ghost use Rattle.server_core.specs.Says.{IsRun};
 ghost use Rattle.server_core.specs.declared.messages.Entry.{Entry};
 ghost use Rattle.server_core.specs.declared.messages.Mail.{Mail};
 ghost use Rattle.server_core.specs.declared.messages.Msg as messages;
+ghost use Rattle.server_core.specs.Hearing.{IsFitting, SaysOn, StandsWith, StandsStill};
 
 use crate::messages::{Mail, Msg};
 use crate::outbox::Outbox;
@@ -56,12 +57,12 @@ pub trait Handles: Sized + Drop {
 
     /// Handles a message: what the node says goes to the end of `out`. Want of memory leaves node and mails as they were.
     fn handle(&mut self, from: u8, msg: &Msg, out: &mut Outbox) -> Result<(), NoMemory>
-        requires fits { (ms : List messages.Msg) × Self.stands self.old ms × FitsRole (Self.role self.old) from msg.now ms }
+        requires fits { IsFitting (Self.stands self.old) (Self.role self.old) from msg.now }
         ensures role { Self.role self.new ≡ Self.role self.old }
-        ensures says { OnOk result ((ms : List messages.Msg) → Self.stands self.old ms → FitsRole (Self.role self.old) from msg.now ms → out.new.mails ≡ out.old.mails ++ said_by (Self.role self.old) (msg.now ∷ ms)) }
-        ensures stands { OnOk result ((ms : List messages.Msg) → Self.stands self.old ms → FitsRole (Self.role self.old) from msg.now ms → Self.stands self.new (msg.now ∷ ms)) }
+        ensures says { OnOk result (SaysOn (Self.stands self.old) (Self.role self.old) from msg.now out.old.mails out.new.mails) }
+        ensures stands { OnOk result (StandsWith (Self.stands self.old) (Self.role self.old) from msg.now (Self.stands self.new)) }
         ensures same_mails { OnErr result (out.new.mails ≡ out.old.mails) }
-        ensures same { OnErr result ((ms : List messages.Msg) → Self.stands self.old ms → Self.stands self.new ms) };
+        ensures same { OnErr result (StandsStill (Self.stands self.old) (Self.stands self.new)) };
 
     /// A copy of the rows that the messages leave, in key order.
     fn rows(&self) -> Result<RowList, NoMemory>

@@ -7,31 +7,31 @@ use Rattle.coord.proofs.coord.Coord.step.Goals as goal
 
 pub start-requires-clause-id : goal.start-requires-clause-id
 start-requires-clause-id c =
-    let f = c.requires.fits in start_id c.args.self.now f.1.0 f.1.1.0 c.args.msg.now f.0 f.1.1.1 c.in-Start.who c.in-Start.is
+    let f = c.requires.fits in start_id c.args.self.now f.1.0 f.1.1 c.args.msg.now f.0 f.1.2 c.in-Start.who c.in-Start.is
 
 pub start-requires-clause-counter : goal.start-requires-clause-counter
 start-requires-clause-counter c =
-    let f = c.requires.fits in stamps_few c.args.self.now f.1.0 f.1.1.0 c.args.msg.now f.0 f.1.1.1
+    let f = c.requires.fits in stamps_few c.args.self.now f.1.0 f.1.1 c.args.msg.now f.0 f.1.2
 
 pub granted-requires : goal.granted-requires
 granted-requires c =
-    let f = c.requires.fits in granted_id c.args.self.now f.1.0 f.1.1.0 c.args.msg.now f.0 f.1.1.1 c.in-Granted.who c.in-Granted.key c.in-Granted.row c.in-Granted.version c.in-Granted.bound c.in-Granted.is
+    let f = c.requires.fits in granted_id c.args.self.now f.1.0 f.1.1 c.args.msg.now f.0 f.1.2 c.in-Granted.who c.in-Granted.key c.in-Granted.row c.in-Granted.version c.in-Granted.bound c.in-Granted.is
 
 pub refused-requires-clause-small : goal.refused-requires-clause-small
 refused-requires-clause-small c =
-    let f = c.requires.fits in refused_small c.args.self.now f.1.0 f.1.1.0 c.args.msg.now f.0 f.1.1.1 c.in-Refused.who c.in-Refused.key c.in-Refused.cause c.in-Refused.is
+    let f = c.requires.fits in refused_small c.args.self.now f.1.0 f.1.1 c.args.msg.now f.0 f.1.2 c.in-Refused.who c.in-Refused.key c.in-Refused.cause c.in-Refused.is
 
 pub refused-requires-clause-more : goal.refused-requires-clause-more
 refused-requires-clause-more c =
-    let f = c.requires.fits in refused_more c.args.self.now f.1.0 f.1.1.0 c.args.msg.now f.0 f.1.1.1 c.in-Refused.who c.in-Refused.key c.in-Refused.cause c.in-Refused.is
+    let f = c.requires.fits in refused_more c.args.self.now f.1.0 f.1.1 c.args.msg.now f.0 f.1.2 c.in-Refused.who c.in-Refused.key c.in-Refused.cause c.in-Refused.is
 
 pub done-requires : goal.done-requires
 done-requires c =
-    let f = c.requires.fits in record { next = next_few c.args.self.now f.1.0 f.1.1.0 c.args.msg.now f.0 f.1.1.1 }
+    let f = c.requires.fits in record { next = next_few c.args.self.now f.1.0 f.1.1 c.args.msg.now f.0 f.1.2 }
 
 pub undone-requires : goal.undone-requires
 undone-requires c =
-    let f = c.requires.fits in record { next = next_few c.args.self.now f.1.0 f.1.1.0 c.args.msg.now f.0 f.1.1.1 }
+    let f = c.requires.fits in record { next = next_few c.args.self.now f.1.0 f.1.1 c.args.msg.now f.0 f.1.2 }
 
 pub returns-in-Start-clause-says : goal.returns-in-Start-clause-says
 returns-in-Start-clause-says c =

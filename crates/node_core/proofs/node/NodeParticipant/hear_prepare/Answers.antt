@@ -6,7 +6,7 @@ pub tell_vote-requires-clause-known : goal.tell_vote-requires-clause-known
 tell_vote-requires-clause-known g c =
     let n = c.args.self.now in
     let f = c.requires.fits in
-    prepare_known g.C.Control.stands g.C.Control.rule n.role n.control f.0 f.1 c.args.who c.args.bound c.args.writes.now c.args.appends.now f.2.participant f.3
+    prepare_known g.C.Control.stands g.C.Control.rule n.role n.control f.0 f.1.0 c.args.who c.args.bound c.args.writes.now c.args.appends.now f.1.1.participant f.1.2
 
 pub returns-clause-stands : goal.returns-clause-stands
 returns-clause-stands g c from ms stands fits =
