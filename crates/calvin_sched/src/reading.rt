@@ -1,7 +1,6 @@
 //! What transactions read and leave at a node.
 ghost use Rattle.std.specs.Prelude.{◌≡◌, ◌++◌, ℕ, List, map, IfOk, OnOk, option_map};
 ghost use Rattle.deneva_base.specs.Lists.{IsIn};
-ghost use Rattle.deneva_base.specs.Rows.{row_at, row_of, row_or_empty};
 ghost use Rattle.deneva_base.specs.declared.rows.Keyed as keyed;
 ghost use Rattle.row_store.specs.Stores.{row_in};
 ghost use Rattle.txn_program.specs.Serial.{all_ids};
@@ -21,20 +20,7 @@ use deneva_base::{Key, Keyed, NoMemory, Row, RowList, TxnId, partition_of};
 use row_store::Store;
 use server_core::{MailList, Msg, SentRows};
 use std::alloc::Global;
-use txn_program::{Effect, ReadRow, Verdict};
-
-/// The row of a key among these.
-fn row_among<'r>(rows: &'r [Keyed], key: Key) -> Option<&'r Row>
-    ensures row { option_map (λ r. r.now) result ≡ row_of rows.now key }
-    ensures cells { row_or_empty (option_map (λ r. r.now) result) ≡ row_at rows.now key }
-{
-    for keyed in rows {
-        if keyed.key == key {
-            return Some(&keyed.row);
-        }
-    }
-    None
-}
+use txn_program::{Effect, ReadRow, Verdict, row_among};
 
 /// The row of a key, where these rows were left over those of the store.
 fn row_after<'a>(store: &'a Store, left: &'a [Keyed], key: Key) -> Option<&'a Row>

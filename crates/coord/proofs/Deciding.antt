@@ -1,5 +1,5 @@
 -- What votes decide does not depend on their order.
-use Rattle.std.proofs.Common.{◌≡◌, ℕ, ◌≤◌, ◌^◌, ltb, max, min, List, [], ◌∷◌, ◌++◌, map, reverse, Bool, true, false, cond, ◌||◌, leb, None, Some, refl, ap, ◌∙◌, arith}
+use Rattle.std.proofs.Common.{◌≡◌, ℕ, ltb, max, min, List, [], ◌∷◌, ◌++◌, reverse, Bool, true, false, cond, ◌||◌, leb, None, Some, refl, ap, ◌∙◌, arith}
 use Rattle.std.specs.List.{list_any}
 use Rattle.std.proofs.lemmas.Grind.{reverse_onto}
 use Rattle.deneva_base.specs.Lists.{greatest_by, least_by}
@@ -8,10 +8,9 @@ use Rattle.deneva_base.specs.declared.answers.Vote.{Vote}
 use Rattle.deneva_base.specs.declared.answers.Vote.TheVariants.{Yes, No}
 use Rattle.deneva_base.specs.declared.causes.Cause.{Cause}
 use Rattle.server_core.specs.Coordinator.{decision, first_no, no_in, greatest_lo, least_hi, lo_of, hi_of}
-use Rattle.server_core.specs.Replies as replies
+use Rattle.server_core.specs.declared.ballots.Ballot.{Ballot}
 use Rattle.server_core.specs.declared.messages.Msg.TheVariants as messages
-use Rattle.coord.specs.declared.ballots.Ballot.{Ballot}
-use Rattle.coord.specs.Ballots.{ballot_of, is_no, says_no, lower_end, upper_end}
+use Rattle.coord.specs.Ballots.{is_no, says_no}
 
 -- a fold that takes no order, over a list and back
 any_push : {A : Type 0} (p : A → Bool) (xs : List A) (x : A) → list_any p (xs ++ x ∷ []) ≡ (p x || list_any p xs)
@@ -32,32 +31,24 @@ least_push : {A : Type 0} (f : A → ℕ) (xs : List A) (x : A) → least_by f (
 least_push f [] x = refl
 least_push f (y ∷ ys) x = omega (arith, least_push f ys x)
 
-pub least_small : {A : Type 0} (f : A → ℕ) (xs : List A) → least_by f xs ≤ 2 ^ 63
-least_small f [] = omega arith
-least_small f (x ∷ xs) = omega (arith, least_small f xs)
+back_more : (b : Ballot) (bs : List Ballot) → reverse (b ∷ bs) ≡ reverse bs ++ b ∷ []
+back_more b bs = reverse_onto bs b []
 
--- the ballots as definitions have them, the newest first
-abbrev back : List Ballot → List replies.Ballot
-back bs = reverse (map ballot_of bs)
-
-back_more : (b : Ballot) (bs : List Ballot) → back (b ∷ bs) ≡ back bs ++ ballot_of b ∷ []
-back_more b bs = reverse_onto (map ballot_of bs) (ballot_of b) []
-
-any_back : (bs : List Ballot) → list_any (λ (b : replies.Ballot). is_no b.vote) (back bs) ≡ list_any says_no bs
+any_back : (bs : List Ballot) → list_any says_no (reverse bs) ≡ list_any says_no bs
 any_back [] = refl
-any_back (b ∷ bs) = ap (list_any (λ (b : replies.Ballot). is_no b.vote)) (back_more b bs) ∙ any_push (λ (b : replies.Ballot). is_no b.vote) (back bs) (ballot_of b) ∙ ap (λ t. is_no b.vote || t) (any_back bs)
+any_back (b ∷ bs) = ap (list_any says_no) (back_more b bs) ∙ any_push says_no (reverse bs) b ∙ ap (λ t. says_no b || t) (any_back bs)
 
-greatest_back : (bs : List Ballot) → greatest_lo (back bs) ≡ greatest_by lower_end bs
+greatest_back : (bs : List Ballot) → greatest_lo (reverse bs) ≡ greatest_lo bs
 greatest_back [] = refl
-greatest_back (b ∷ bs) = ap greatest_lo (back_more b bs) ∙ greatest_push (λ (b : replies.Ballot). lo_of b.vote) (back bs) (ballot_of b) ∙ ap (max (lo_of b.vote)) (greatest_back bs)
+greatest_back (b ∷ bs) = ap greatest_lo (back_more b bs) ∙ greatest_push (λ (b : Ballot). lo_of b.vote) (reverse bs) b ∙ ap (max (lo_of b.vote)) (greatest_back bs)
 
-least_back : (bs : List Ballot) → least_hi (back bs) ≡ least_by upper_end bs
+least_back : (bs : List Ballot) → least_hi (reverse bs) ≡ least_hi bs
 least_back [] = refl
-least_back (b ∷ bs) = ap least_hi (back_more b bs) ∙ least_push (λ (b : replies.Ballot). hi_of b.vote) (back bs) (ballot_of b) ∙ ap (min (hi_of b.vote)) (least_back bs)
+least_back (b ∷ bs) = ap least_hi (back_more b bs) ∙ least_push (λ (b : Ballot). hi_of b.vote) (reverse bs) b ∙ ap (min (hi_of b.vote)) (least_back bs)
 
 -- a No is an abort, wherever it stands
-module _ (who : Attempt) (all : List replies.Ballot) where
-  kept : (x : ℕ × Cause) (bs : List replies.Ballot) → decision who all (first_no (Some x) bs) ≡ messages.Abort who
+module _ (who : Attempt) (all : List Ballot) where
+  kept : (x : ℕ × Cause) (bs : List Ballot) → decision who all (first_no (Some x) bs) ≡ messages.Abort who
   kept x [] = refl
   kept x (b ∷ bs) = one b.vote (λ y. kept y bs)
     where
@@ -69,14 +60,14 @@ module _ (who : Attempt) (all : List replies.Ballot) where
       one (Yes lo hi) more = more x
       one (No cause) more = either (ltb b.part x.0) (b.part, cause) more
 
-  decided : (bs : List replies.Ballot) → decision who all (first_no None bs) ≡ cond (list_any (λ (b : replies.Ballot). is_no b.vote) bs) (messages.Abort who) (decision who all None)
+  decided : (bs : List Ballot) → decision who all (first_no None bs) ≡ cond (list_any says_no bs) (messages.Abort who) (decision who all None)
   decided [] = refl
   decided (b ∷ bs) = one b.vote (decided bs)
     where
-      one : (v : Vote) → decision who all (first_no None bs) ≡ cond (list_any (λ (b : replies.Ballot). is_no b.vote) bs) (messages.Abort who) (decision who all None) → decision who all (first_no (no_in None b.part v) bs) ≡ cond (is_no v || list_any (λ (b : replies.Ballot). is_no b.vote) bs) (messages.Abort who) (decision who all None)
+      one : (v : Vote) → decision who all (first_no None bs) ≡ cond (list_any says_no bs) (messages.Abort who) (decision who all None) → decision who all (first_no (no_in None b.part v) bs) ≡ cond (is_no v || list_any says_no bs) (messages.Abort who) (decision who all None)
       one (Yes lo hi) more = more
       one (No cause) more = kept (b.part, cause) bs
 
 -- what the votes decide, by three questions that take no order
-pub decides : (who : Attempt) (bs : List Ballot) → decision who (back bs) (first_no None (back bs)) ≡ cond (list_any says_no bs) (messages.Abort who) (cond (leb (greatest_by lower_end bs) (least_by upper_end bs)) (messages.Commit who (record { n = greatest_by lower_end bs; id = who.txn })) (messages.Abort who))
-decides who bs = decided who (back bs) (back bs) ∙ rw (any_back bs, greatest_back bs, least_back bs) refl
+pub decides : (who : Attempt) (bs : List Ballot) → decision who (reverse bs) (first_no None (reverse bs)) ≡ cond (list_any says_no bs) (messages.Abort who) (cond (leb (greatest_lo bs) (least_hi bs)) (messages.Commit who (record { n = greatest_lo bs; id = who.txn })) (messages.Abort who))
+decides who bs = decided who (reverse bs) (reverse bs) ∙ rw (any_back bs, greatest_back bs, least_back bs) refl

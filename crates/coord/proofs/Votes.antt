@@ -1,12 +1,10 @@
 -- A vote, by whether it is the last.
-use Rattle.std.proofs.Common.{◌≡◌, ℕ, List, [], ◌∷◌, ◌++◌, map, Bool, true, false, cond, not, ◌&&◌, eqb, refl, sym, ap, ◌∙◌, true≢false, append-nil}
+use Rattle.std.proofs.Common.{◌≡◌, ℕ, List, [], ◌∷◌, ◌++◌, Bool, true, false, cond, not, ◌&&◌, eqb, refl, sym, ap, ◌∙◌, true≢false, append-nil}
 use Rattle.std.specs.List.{list_all}
 use Rattle.deneva_base.specs.declared.numbers.Attempt.{Attempt}
 use Rattle.server_core.specs.declared.messages.Mail.{Mail}
-use Rattle.server_core.specs.Replies as replies
+use Rattle.server_core.specs.declared.ballots.Ballot.{Ballot}
 use Rattle.server_core.specs.Setting.{Setting}
-use Rattle.coord.specs.declared.ballots.Ballot.{Ballot}
-use Rattle.coord.specs.Ballots.{ballot_of}
 use Rattle.coord.specs.States.{State, voted, voted_as, voted_mails, verdict_mails, decision_mails, participants_of, with_ballot, without}
 
 pub last_left : (part : ℕ) (left : List ℕ) → list_all (λ q. eqb q part) left ≡ true → without part left ≡ []
@@ -25,7 +23,7 @@ more_left part (q ∷ left) e = go (eqb q part) e (more_left part left)
     go true e k = k e
     go false e k = (q, without part left, refl)
 
-module _ (s : Setting) (b : replies.Ballot) (t : State) where
+module _ (s : Setting) (b : Ballot) (t : State) where
   pub voted_on : list_all (λ q. eqb q b.part) t.left ≡ false → with_ballot b (without b.part t.left) t ≡ voted s b t
   voted_on e = let m = more_left b.part t.left e in ap (λ l. with_ballot b l t) m.2 ∙ sym (ap (voted_as s b t) m.2)
 
@@ -38,9 +36,5 @@ module _ (s : Setting) (b : replies.Ballot) (t : State) where
   pub told_last : (p : ℕ) (who : Attempt) → list_all (λ q. eqb q b.part) t.left ≡ true → decision_mails s p who (with_ballot b t.left t) ≡ voted_mails s p who b t
   told_last p who e = sym (ap (verdict_mails s p who b t) (last_left b.part t.left e))
 
-abbrev pub with_ballots : List replies.Ballot → List ℕ → State → State
+abbrev pub with_ballots : List Ballot → List ℕ → State → State
 with_ballots bs left t = record { turn = t.turn; stamp = t.stamp; accesses = t.accesses; granted = t.granted; rows = t.rows; bound = t.bound; ballots = bs; left = left }
-
-pub ballots_more : (bs : List Ballot) (b : Ballot) → map ballot_of (bs ++ b ∷ []) ≡ map ballot_of bs ++ ballot_of b ∷ []
-ballots_more [] b = refl
-ballots_more (x ∷ bs) b = ap (λ l. ballot_of x ∷ l) (ballots_more bs b)

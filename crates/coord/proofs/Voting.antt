@@ -9,7 +9,8 @@ use Rattle.deneva_base.specs.Lists.{IsIn}
 use Rattle.server_core.specs.declared.messages.Msg.{Msg}
 use Rattle.server_core.specs.declared.messages.Msg.TheVariants.{Yes, No}
 use Rattle.server_core.specs.Coordinator.{coordinator, decision, first_no, to_all, polled}
-use Rattle.server_core.specs.Replies.{Ballot, votes_for, all_closed}
+use Rattle.server_core.specs.Replies.{votes_for, all_closed}
+use Rattle.server_core.specs.declared.ballots.Ballot.{Ballot}
 use Rattle.server_core.specs.Setting.{Setting, parts_of, parts_for, participants}
 use Rattle.server_core.specs.VotingFits.{AllFit, HasAll, HasVoted}
 use Rattle.coord.specs.Left.{left_to_vote, left_to_close}

@@ -1,18 +1,13 @@
--- What a ballot and a decision stand for.
-use Rattle.std.specs.Prelude.{ℕ, Bool, true, false}
+-- What a decision stands for, and which votes are a No.
+use Rattle.std.specs.Prelude.{Bool, true, false}
 use Rattle.deneva_base.specs.declared.numbers.Attempt.{Attempt}
 use Rattle.deneva_base.specs.declared.answers.Vote.{Vote}
 use Rattle.deneva_base.specs.declared.answers.Vote.TheVariants.{Yes, No}
-use Rattle.server_core.specs.Coordinator.{lo_of, hi_of}
-use Rattle.server_core.specs.Replies as replies
+use Rattle.server_core.specs.declared.ballots.Ballot.{Ballot}
 use Rattle.server_core.specs.declared.messages.Msg.{Msg}
 use Rattle.server_core.specs.declared.messages.Msg.TheVariants as messages
-use Rattle.coord.specs.declared.ballots.Ballot.{Ballot}
 use Rattle.coord.specs.declared.ballots.Decision.{Decision}
 use Rattle.coord.specs.declared.ballots.Decision.TheVariants.{Commit, Abort}
-
-abbrev pub ballot_of : Ballot → replies.Ballot
-ballot_of b = record { part = b.part; vote = b.vote }
 
 abbrev pub message_of : Attempt → Decision → Msg
 message_of who (Commit n) = messages.Commit who (record { n = n; id = who.txn })
@@ -24,10 +19,3 @@ is_no (No cause) = true
 
 abbrev pub says_no : Ballot → Bool
 says_no b = is_no b.vote
-
--- the ends of the window of a ballot
-abbrev pub lower_end : Ballot → ℕ
-lower_end b = lo_of b.vote
-
-abbrev pub upper_end : Ballot → ℕ
-upper_end b = hi_of b.vote

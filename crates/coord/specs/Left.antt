@@ -1,7 +1,7 @@
 -- The partitions from which something is still to come.
 use Rattle.std.specs.Prelude.{ℕ, List, filter, not, eqb}
 use Rattle.std.specs.List.{list_any}
-use Rattle.server_core.specs.Replies.{Ballot}
+use Rattle.server_core.specs.declared.ballots.Ballot.{Ballot}
 
 -- those that have not voted
 abbrev pub left_to_vote : List Ballot → List ℕ → List ℕ

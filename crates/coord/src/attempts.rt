@@ -6,15 +6,14 @@ ghost use Rattle.txn_program.specs.Serial.{all_ids};
 ghost use Rattle.server_core.specs.Replies.{Reply};
 ghost use Rattle.server_core.specs.Roles.{setting_of};
 ghost use Rattle.coord.specs.Attempts.{state_of, reply_of};
-ghost use Rattle.coord.specs.Ballots.{ballot_of};
 ghost use Rattle.coord.specs.States as states;
 ghost use Rattle.coord.specs.States.{State, begun, taken, going_on, next_mails, granted_mails, refused_mails, decision_mails, voted_mails, with_left, without};
 
-use crate::ballots::{Ballot, Decision, decide};
+use crate::ballots::{Decision, decide};
 use crate::replies::{Grant, greater_bound, take_out};
 use crate::saying::{Ending, ask_mail, say_prepares, say_to_all};
 use deneva_base::{Access, AccessList, Attempt, Bound, Key, Keyed, NoMemory, Number, RowList};
-use server_core::{Outbox, Role};
+use server_core::{Ballot, Outbox, Role};
 use std::alloc::Global;
 use std::mem;
 use txn_program::{effect_of, parts_of};
@@ -212,8 +211,8 @@ impl Attempting {
         ballot: Ballot,
         out: &mut Outbox,
     ) -> Result<(), NoMemory>
-        ensures ok { OnOk result (state_of self.new ≡ states.voted (setting_of role.now) (ballot_of ballot) (state_of self.old)) }
-        ensures said { OnOk result (out.new.mails ≡ out.old.mails ++ voted_mails (setting_of role.now) role.now.part who (ballot_of ballot) (state_of self.old)) }
+        ensures ok { OnOk result (state_of self.new ≡ states.voted (setting_of role.now) ballot (state_of self.old)) }
+        ensures said { OnOk result (out.new.mails ≡ out.old.mails ++ voted_mails (setting_of role.now) role.now.part who ballot (state_of self.old)) }
         ensures err { OnErr result (state_of self.new ≡ state_of self.old) }
         ensures same_mails { OnErr result (out.new.mails ≡ out.old.mails) }
     {

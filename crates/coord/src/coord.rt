@@ -19,13 +19,12 @@ ghost use Rattle.coord.specs.States.{if_none_left, undone_mails, refused_mails, 
 ghost use Rattle.server_core.specs.Hearing.{IsFitting, StandsWith, StandsStill};
 
 use crate::attempts::Attempting;
-use crate::ballots::Ballot;
 use crate::counters::{raised, stamp_of};
 use crate::open::OpenTxns;
 use crate::replies::Grant;
 use crate::saying::{ask_mail, say_start};
 use deneva_base::{Attempt, Cause, Config, NoMemory, TxnId, Vote};
-use server_core::{Msg, Outbox, Role};
+use server_core::{Ballot, Msg, Outbox, Role};
 use std::alloc::Global;
 use txn_program::Workload;
 

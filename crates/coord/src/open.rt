@@ -6,16 +6,14 @@ ghost use Rattle.deneva_base.specs.declared.numbers.TxnId as ids;
 ghost use Rattle.txn_program.specs.Serial.{all_ids};
 ghost use Rattle.server_core.specs.Roles.{setting_of};
 ghost use Rattle.coord.specs.Attempts.{state_of, reply_of};
-ghost use Rattle.coord.specs.Ballots.{ballot_of};
 ghost use Rattle.coord.specs.Open.{state_at, SetsState, SameStates, WithState};
 ghost use Rattle.coord.specs.States as states;
 ghost use Rattle.coord.specs.States.{State, kept_stamp, granted_mails, refused_mails, voted_mails, with_left, without};
 
 use crate::attempts::Attempting;
-use crate::ballots::Ballot;
 use crate::replies::Grant;
 use deneva_base::{Attempt, NoMemory, TxnId};
-use server_core::{Outbox, Role};
+use server_core::{Ballot, Outbox, Role};
 use std::alloc::Global;
 use std::collections::HashMap;
 
@@ -107,8 +105,8 @@ impl OpenTxns {
         ballot: Ballot,
         out: &mut Outbox,
     ) -> Result<(), NoMemory>
-        ensures ok { OnOk result (WithState self.old who.txn (λ t. SetsState self.old who.txn (Some (states.voted (setting_of role.now) (ballot_of ballot) t)) self.new)) }
-        ensures said { OnOk result (WithState self.old who.txn (λ t. out.new.mails ≡ out.old.mails ++ voted_mails (setting_of role.now) role.now.part who (ballot_of ballot) t)) }
+        ensures ok { OnOk result (WithState self.old who.txn (λ t. SetsState self.old who.txn (Some (states.voted (setting_of role.now) ballot t)) self.new)) }
+        ensures said { OnOk result (WithState self.old who.txn (λ t. out.new.mails ≡ out.old.mails ++ voted_mails (setting_of role.now) role.now.part who ballot t)) }
         ensures err { OnErr result (SameStates self.old self.new) }
         ensures same_mails { OnErr result (out.new.mails ≡ out.old.mails) }
     {

@@ -1,8 +1,9 @@
 //! What votes decide, and the stamps of nodes, on small tables.
 
-use crate::ballots::{Ballot, Decision, decide};
+use crate::ballots::{Decision, decide};
 use crate::counters::stamp_of;
 use deneva_base::{Attempt, Cause, Key, TxnId, Vote};
+use server_core::Ballot;
 use std::test::Fail;
 
 const CAUSE: Cause = Cause::Held {

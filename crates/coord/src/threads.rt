@@ -2,7 +2,7 @@
 
 use crate::Coord;
 use crate::attempts::Attempting;
-use crate::ballots::{Ballot, Decision};
+use crate::ballots::Decision;
 use crate::open::OpenTxns;
 use crate::replies::Grant;
 use crate::saying::Ending;
@@ -11,7 +11,6 @@ fn crosses<X: Send + Sync>() {}
 
 /// Each type may be moved to another thread and shared between threads.
 fn may_cross_threads() {
-    crosses::<Ballot>();
     crosses::<Decision>();
     crosses::<Ending>();
     crosses::<Grant>();

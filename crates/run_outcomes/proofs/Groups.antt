@@ -7,7 +7,8 @@ use Rattle.std.proofs.Math.ListN.{get_or-map}
 use Rattle.deneva_base.specs.declared.numbers.TxnId.{TxnId}
 use Rattle.txn_program.specs.Transactions.{numbers_below}
 use Rattle.server_core.specs.declared.messages.Entry.{Entry}
-use Rattle.run_outcomes.specs.Naming.{txn_of, is_id, is_about, entries_of, groups_of}
+use Rattle.run_outcomes.specs.Naming.{is_id, is_about, entries_of, groups_of}
+use Rattle.server_core.specs.Messages.{txn_of}
 
 pub length_below : {A : Type 0} (f : ℕ → A) (n : ℕ) → length (map f (numbers_below n)) ≡ n
 length_below f zero = refl

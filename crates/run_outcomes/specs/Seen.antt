@@ -4,19 +4,14 @@ use Rattle.deneva_base.specs.declared.answers.Vote.{Vote}
 use Rattle.deneva_base.specs.declared.causes.Cause.{Cause}
 use Rattle.server_core.specs.Aborts as aborts
 use Rattle.server_core.specs.Coordinator.{lo_of, hi_of}
-use Rattle.server_core.specs.Replies as replies
 use Rattle.run_outcomes.specs.declared.ballots.End.{End}
 use Rattle.run_outcomes.specs.declared.ballots.End.TheVariants.{Lo, Hi}
 use Rattle.run_outcomes.specs.declared.ballots.No.{No}
 use Rattle.run_outcomes.specs.declared.replies.Refusal.{Refusal}
-use Rattle.run_outcomes.specs.declared.replies.Ballot.{Ballot}
 
 abbrev pub refusal_of : Option Refusal → Option aborts.Refusal
 refusal_of None = None
 refusal_of (Some r) = Some (record { key = r.key; cause = r.cause })
-
-abbrev pub ballot_of : Ballot → replies.Ballot
-ballot_of b = record { part = b.part; vote = b.vote }
 
 abbrev pub no_of : Option No → Option (ℕ × Cause)
 no_of None = None

@@ -5,16 +5,16 @@ ghost use Rattle.server_core.specs.Aborts as aborts;
 ghost use Rattle.server_core.specs.Coordinator as coordinator;
 ghost use Rattle.server_core.specs.Ends as ends;
 ghost use Rattle.server_core.specs.declared.messages.Entry as messages;
-ghost use Rattle.run_outcomes.specs.Seen.{ballot_of, refusal_of};
+ghost use Rattle.run_outcomes.specs.Seen.{refusal_of};
 ghost use Rattle.server_core.specs.Roles.{setting_of};
 ghost use Rattle.run_outcomes.specs.Stories.{Tells};
 ghost use Rattle.server_core.specs.declared.role.Role as roles;
 
-use crate::ballots::{all_voted, apart, first_no, greatest_lo, least_hi};
-use crate::replies::{Ballot, Refusal, refusal_for, started_for, votes_for};
+use crate::ballots::{all_voted, apart, first_no};
+use crate::replies::{Refusal, refusal_for, started_for, votes_for};
 use crate::stories::Story;
 use deneva_base::{Attempt, Cause, Key, NoMemory};
-use server_core::{AbortLine, AbortList, Entry, Msg, Role};
+use server_core::{AbortLine, AbortList, Ballot, Entry, Msg, Role, greatest_lo, least_hi};
 
 /// Whether the attempt asks for the key.
 fn is_ask_of(who: Attempt, key: Key, msg: &Msg) -> bool
@@ -100,7 +100,7 @@ impl Story<'_> {
 
     /// The line of the attempt of this turn, if these votes abort it.
     fn vote_line(&self, turn: u8, ballots: &[Ballot]) -> Option<AbortLine>
-        ensures { (r : roles.Role) (H : List messages.Entry) → Tells r H self.now → option_to_list result ≡ aborts.vote_abort (setting_of r) H (ends.attempt self.now.id turn) (map ballot_of ballots.now) (coordinator.first_no None (map ballot_of ballots.now)) }
+        ensures { (r : roles.Role) (H : List messages.Entry) → Tells r H self.now → option_to_list result ≡ aborts.vote_abort (setting_of r) H (ends.attempt self.now.id turn) ballots.now (coordinator.first_no None ballots.now) }
     {
         let who = self.attempt(turn);
         match first_no(None, ballots) {

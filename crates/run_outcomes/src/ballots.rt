@@ -1,13 +1,13 @@
 //! What the votes on an attempt come to.
-ghost use Rattle.std.specs.Prelude.{◌≡◌, map, eqb, true};
+ghost use Rattle.std.specs.Prelude.{◌≡◌, eqb, true};
 ghost use Rattle.std.specs.List.{list_any};
 ghost use Rattle.server_core.specs.Aborts as aborts;
 ghost use Rattle.server_core.specs.Coordinator as coordinator;
 ghost use Rattle.server_core.specs.Replies as replies;
-ghost use Rattle.run_outcomes.specs.Seen.{ballot_of, no_of, end_of};
+ghost use Rattle.run_outcomes.specs.Seen.{no_of, end_of};
 
-use crate::replies::Ballot;
 use deneva_base::{Cause, Vote};
+use server_core::{Ballot, greatest_lo, least_hi};
 
 /// A No, and the partition that said it.
 #[derive(Clone, Copy)]
@@ -39,7 +39,7 @@ impl End {
 
 /// Whether the partition has voted.
 fn has_voted(ballots: &[Ballot], part: u8) -> bool
-    ensures { result ≡ list_any (λ b. eqb b.part part) (map ballot_of ballots.now) }
+    ensures { result ≡ list_any (λ b. eqb b.part part) ballots.now }
 {
     match ballots {
         [] => false,
@@ -49,7 +49,7 @@ fn has_voted(ballots: &[Ballot], part: u8) -> bool
 
 /// Whether each of these partitions has voted.
 pub(crate) fn all_voted(ballots: &[Ballot], parts: &[u8]) -> bool
-    ensures { result ≡ replies.all_voted (map ballot_of ballots.now) parts.now }
+    ensures { result ≡ replies.all_voted ballots.now parts.now }
 {
     match parts {
         [] => true,
@@ -71,31 +71,11 @@ fn lesser_no(best: Option<No>, ballot: Ballot) -> Option<No>
 
 /// The No of the least partition that said one.
 pub(crate) fn first_no(best: Option<No>, ballots: &[Ballot]) -> Option<No>
-    ensures { no_of result ≡ coordinator.first_no (no_of best) (map ballot_of ballots.now) }
+    ensures { no_of result ≡ coordinator.first_no (no_of best) ballots.now }
 {
     match ballots {
         [] => best,
         [ballot, rest @ ..] => first_no(lesser_no(best, *ballot), rest),
-    }
-}
-
-/// The greatest lower end of the windows, and 0 without one.
-pub(crate) fn greatest_lo(ballots: &[Ballot]) -> u64
-    ensures { result ≡ coordinator.greatest_lo (map ballot_of ballots.now) }
-{
-    match ballots {
-        [] => 0,
-        [ballot, rest @ ..] => End::Lo.of(ballot.vote).max(greatest_lo(rest)),
-    }
-}
-
-/// The least upper end of the windows, and 2^63 without one.
-pub(crate) fn least_hi(ballots: &[Ballot]) -> u64
-    ensures { result ≡ coordinator.least_hi (map ballot_of ballots.now) }
-{
-    match ballots {
-        [] => 1 << 63,
-        [ballot, rest @ ..] => End::Hi.of(ballot.vote).min(least_hi(rest)),
     }
 }
 
@@ -111,7 +91,7 @@ fn lesser(part: u8, other: Option<u8>) -> u8
 
 /// The least partition that voted this end.
 fn least_part(end: End, number: u64, ballots: &[Ballot]) -> Option<u8>
-    ensures { result ≡ aborts.least_part (end_of end) number (map ballot_of ballots.now) }
+    ensures { result ≡ aborts.least_part (end_of end) number ballots.now }
 {
     let [ballot, rest @ ..] = ballots else {
         return None;
@@ -126,7 +106,7 @@ fn least_part(end: End, number: u64, ballots: &[Ballot]) -> Option<u8>
 
 /// Why an attempt is aborted on these votes, whose windows do not meet.
 pub(crate) fn apart(ballots: &[Ballot]) -> Cause
-    ensures { result ≡ aborts.apart_of (map ballot_of ballots.now) }
+    ensures { result ≡ aborts.apart_of ballots.now }
 {
     let lo = greatest_lo(ballots);
     let hi = least_hi(ballots);

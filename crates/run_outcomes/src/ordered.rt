@@ -20,6 +20,7 @@ use server_core::{
     AbortList, Decided, DecidedList, Entry, GiveupList, Msg, Outcome, Role, RunKind,
 };
 use std::alloc::Global;
+use txn_program::row_among;
 
 /// Whether the partition has finished the transaction.
 fn has_finished(id: TxnId, part: u8, messages: &[&Msg]) -> bool
@@ -70,10 +71,9 @@ fn rows_from<'h>(id: TxnId, part: u8, messages: &[&'h Msg]) -> &'h [Keyed]
 fn row_at(alloc: Global, rows: &[Keyed], key: Key) -> Result<Row, NoMemory>
     ensures { IfOk result (λ row. row ≡ base_rows.row_at rows.now key) }
 {
-    match rows {
-        [] => Row::empty(alloc),
-        [keyed, ..] if keyed.key == key => keyed.row.share(),
-        [_, rest @ ..] => row_at(alloc, rest, key),
+    match row_among(rows, key) {
+        Some(row) => row.share(),
+        None => Row::empty(alloc),
     }
 }
 

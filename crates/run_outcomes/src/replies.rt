@@ -5,10 +5,10 @@ ghost use Rattle.server_core.specs.Aborts as aborts;
 ghost use Rattle.server_core.specs.Ends.{dones_for, undones_for};
 ghost use Rattle.server_core.specs.Replies as replies;
 ghost use Rattle.server_core.specs.Replies.{all_closed};
-ghost use Rattle.run_outcomes.specs.Seen.{refusal_of, ballot_of};
+ghost use Rattle.run_outcomes.specs.Seen.{refusal_of};
 
 use deneva_base::{Attempt, Cause, Key, NoMemory, Row, Vote};
-use server_core::Msg;
+use server_core::{Ballot, Msg};
 use std::alloc::Global;
 
 /// A refused access, and why it was refused.
@@ -16,13 +16,6 @@ use std::alloc::Global;
 pub(crate) struct Refusal {
     pub(crate) key: Key,
     pub(crate) cause: Cause,
-}
-
-/// A vote, and the partition that it came from.
-#[derive(Clone, Copy)]
-pub(crate) struct Ballot {
-    pub(crate) part: u8,
-    pub(crate) vote: Vote,
 }
 
 /// Whether the attempt was begun.
@@ -97,7 +90,7 @@ pub(crate) fn votes_for(
     who: Attempt,
     messages: &[&Msg],
 ) -> Result<Vec<Ballot>, NoMemory>
-    ensures { IfOk result (λ v. map ballot_of v.items ≡ replies.votes_for who (map (λ m. m.now) messages.now)) }
+    ensures { IfOk result (λ v. v.items ≡ replies.votes_for who (map (λ m. m.now) messages.now)) }
 {
     let [msg, before @ ..] = messages else {
         return Ok(Vec::new(alloc));

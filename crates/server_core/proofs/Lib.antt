@@ -1,3 +1,5 @@
+mod Alike
+mod Windows
 pub mod counts
 pub mod values
 pub mod lists

@@ -1,5 +1,6 @@
 pub mod Effects
 pub mod Setting
+pub mod Messages
 pub mod Replies
 pub mod Stamps
 pub mod Coordinator

@@ -5,8 +5,8 @@ use Rattle.deneva_base.specs.declared.keys.Key.{Key}
 use Rattle.deneva_base.specs.declared.numbers.Attempt.{Attempt}
 use Rattle.deneva_base.specs.Rows.{Row}
 use Rattle.deneva_base.specs.Keys.{attempt_eq}
-use Rattle.deneva_base.specs.declared.answers.Vote.{Vote}
 use Rattle.deneva_base.specs.declared.answers.Vote.TheVariants.{Yes as VotesYes, No as VotesNo}
+use Rattle.server_core.specs.declared.ballots.Ballot.{Ballot}
 use Rattle.server_core.specs.declared.messages.Msg.{Msg}
 use Rattle.server_core.specs.declared.messages.Msg.TheVariants.{Start, Granted, Refused, Yes, No, Done, Undone}
 
@@ -22,11 +22,7 @@ grants_for who [] = []
 grants_for who (Granted x key row version bound ∷ ms) = cond (attempt_eq x who) (record { row = row; bound = bound; key = key } ∷ grants_for who ms) (grants_for who ms)
 grants_for who (m ∷ ms) = grants_for who ms
 
--- a vote, and the partition that it came from
-pub record Ballot : Type 0 where
-  pub part : ℕ
-  pub vote : Vote
-
+-- the votes
 abbrev pub votes_for : Attempt → List Msg → List Ballot
 votes_for who [] = []
 votes_for who (Yes x part lo hi ∷ ms) = cond (attempt_eq x who) (record { part = part; vote = VotesYes lo hi } ∷ votes_for who ms) (votes_for who ms)

@@ -2,6 +2,7 @@
 //! of a node, and the definitions that every theorem on runs stands on.
 #![tactic(auto)]
 
+mod ballots;
 mod loading;
 mod messages;
 mod openings;
@@ -18,6 +19,7 @@ mod tests;
 mod threads;
 mod transactions;
 
+pub use ballots::{Ballot, greatest_lo, least_hi};
 use deneva_base::{Items, Keyed, Shared};
 pub use messages::{Entry, Mail, Msg};
 pub use openings::opening;

@@ -1,5 +1,6 @@
 //! Messages between nodes. A node is a partition together with the coordinator of its home transactions.
-ghost use Rattle.std.specs.Prelude.{◌≡◌, IfOk, IfSome};
+ghost use Rattle.std.specs.Prelude.{◌≡◌, ◌↔◌, IsTrue, IfOk, IfSome};
+ghost use Rattle.server_core.specs.Messages.{txn_of};
 
 use crate::SentRows;
 use deneva_base::{
@@ -96,6 +97,36 @@ pub enum Msg {
         part: u8,
         number: Number,
     },
+}
+
+impl Msg {
+    /// The transaction that the message is about. A Tick and a Batch are about none.
+    pub fn txn(&self) -> Option<TxnId>
+        ensures { result ≡ txn_of self.now }
+    {
+        match self {
+            Msg::Start { who }
+            | Msg::Ask { who, .. }
+            | Msg::Granted { who, .. }
+            | Msg::Refused { who, .. }
+            | Msg::Prepare { who, .. }
+            | Msg::Yes { who, .. }
+            | Msg::No { who, .. }
+            | Msg::Commit { who, .. }
+            | Msg::Abort { who }
+            | Msg::Done { who, .. }
+            | Msg::Undone { who, .. } => Some(who.txn),
+            Msg::Tick { .. } | Msg::Batch { .. } => None,
+            Msg::Rows { id, .. } | Msg::Finished { id, .. } => Some(*id),
+        }
+    }
+
+    /// Whether the two messages are one: `==` says no more of them.
+    pub fn is_same(&self, other: &Msg) -> bool
+        ensures { IsTrue result ↔ (self.now ≡ other.now) }
+    {
+        self == other
+    }
 }
 
 /// A copy of a message that has no list.

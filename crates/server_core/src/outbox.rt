@@ -1,5 +1,5 @@
 //! What nodes say, until it is sent.
-ghost use Rattle.std.specs.Prelude.{◌≡◌, ◌++◌, ◌∷◌, [], ◌≤◌, ◌<◌, ◌+◌, ◌==◌, ◌^◌, length, slice_get, Some, IfSome, IfNone, OnOk, OnErr};
+ghost use Rattle.std.specs.Prelude.{◌≡◌, ◌++◌, ◌∷◌, [], ◌≤◌, ◌<◌, ◌+◌, ◌==◌, ◌^◌, length, slice_get, Some, IfSome, IfNone, MatchOption, OnOk, OnErr};
 
 use crate::MailList;
 use crate::messages::Mail;
@@ -25,7 +25,7 @@ impl Model for Outbox {
 }
 
 impl Outbox {
-    /// One without mails. It takes no memory yet.
+    /// One without mails. It takes no memory yet, and promises no room.
     pub fn new(alloc: Global) -> Outbox
         ensures { result.mails ≡ [] }
     {
@@ -76,7 +76,8 @@ impl Outbox {
     /// Moves the mails to the end, for which there is room.
     pub fn put_all(&mut self, mails: MailList)
         requires room { length mails ≤ self.old.spare }
-        ensures { self.new.mails ≡ self.old.mails ++ mails }
+        ensures mails { self.new.mails ≡ self.old.mails ++ mails }
+        ensures spare { self.new.spare + length mails ≡ self.old.spare }
     {
         for mail in mails.into_vec() {
             self.put(mail);
@@ -107,6 +108,7 @@ impl Outbox {
     pub fn take_first(&mut self) -> Option<Mail>
         ensures some { IfSome result (λ m. self.old.mails ≡ m ∷ self.new.mails) }
         ensures none { IfNone result ((self.old.mails ≡ []) × (self.new.mails ≡ [])) }
+        ensures spare { MatchOption result (self.new.spare ≡ self.old.spare) (λ _. self.new.spare ≡ self.old.spare + 1) }
     {
         self.mails.pop_front()
     }

@@ -1,7 +1,7 @@
 //! Workers may move and share what this crate declares: each call below asks the check for it.
 
 use crate::{
-    AbortLine, Decided, Entry, Giveup, Mail, Msg, Outbox, Outcome, Role, RunKind, Schedule,
+    AbortLine, Ballot, Decided, Entry, Giveup, Mail, Msg, Outbox, Outcome, Role, RunKind, Schedule,
 };
 
 fn crosses<X: Send + Sync>() {}
@@ -9,6 +9,7 @@ fn crosses<X: Send + Sync>() {}
 /// Each type may be moved to another thread and shared between threads.
 fn may_cross_threads() {
     crosses::<AbortLine>();
+    crosses::<Ballot>();
     crosses::<Decided>();
     crosses::<Entry>();
     crosses::<Giveup>();

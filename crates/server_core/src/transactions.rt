@@ -8,7 +8,9 @@ ghost use Rattle.server_core.specs.Setting.{home, homes, parts_for};
 
 use crate::role::Role;
 use deneva_base::{AccessList, ByteList, NoMemory, TxnId, partition_of};
-use txn_program::{Effect, Program, ReadRow, accesses_of, effect_at, home, parts_of};
+use txn_program::{
+    Effect, Partition, Program, ReadRow, accesses_of, effect_within, home, parts_of,
+};
 
 impl<'w> Role<'w> {
     /// The transaction of an id.
@@ -77,13 +79,11 @@ impl<'w> Role<'w> {
         requires { IsIn id (all_ids self.now.work.now) }
         ensures { IfOk result (λ e. e ≡ effect_at self.now.config.parts self.now.part ((setting_of self.now).effect id (map as_read rows.now))) }
     {
-        effect_at(
-            self.alloc,
-            self.work,
-            id,
-            rows,
-            self.config.parts,
-            self.part,
-        )
+        let here = Partition {
+            part: self.part,
+            parts: self.config.parts,
+        };
+        let program = self.program(id);
+        effect_within(self.alloc, &self.work.load, id, program, rows, Some(here))
     }
 }

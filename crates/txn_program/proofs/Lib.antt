@@ -7,4 +7,5 @@ pub mod Members
 pub mod Participants
 pub mod ReadRows
 pub mod ValidPrograms
+mod Within
 pub mod WorkloadLaws

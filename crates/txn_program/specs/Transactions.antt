@@ -1,5 +1,5 @@
 -- A transaction as a function: its accesses, its effect on the rows that it reads, and its partitions.
-use Rattle.std.specs.Prelude.{ℕ, zero, suc, ◌==◌, eqb, pos, List, [], ◌∷◌, ◌++◌, map, slice_set, Option, Some, None, option_map}
+use Rattle.std.specs.Prelude.{ℕ, zero, suc, ◌==◌, eqb, pos, Bool, true, List, [], ◌∷◌, ◌++◌, map, slice_set, Option, Some, None, option_map}
 use Rattle.std.specs.List.{list_any, filter, filter_map}
 use Rattle.deneva_base.specs.Modes.{reads}
 use Rattle.deneva_base.specs.Partitions.{partition_of}
@@ -11,6 +11,7 @@ use Rattle.deneva_base.specs.declared.keys.Access.{Access}
 use Rattle.deneva_base.specs.declared.rows.Cell.TheVariants.{Text}
 use Rattle.deneva_base.specs.declared.rows.Keyed.{Keyed}
 use Rattle.deneva_base.specs.declared.numbers.TxnId.{TxnId}
+use Rattle.txn_program.specs.declared.partitions.Partition.{Partition}
 use Rattle.txn_program.specs.declared.programs.YcsbAct.{YcsbAct}
 use Rattle.txn_program.specs.declared.programs.YcsbAct.TheVariants.{Read, Update, Put}
 use Rattle.txn_program.specs.declared.programs.YcsbStep.{YcsbStep}
@@ -19,7 +20,7 @@ use Rattle.txn_program.specs.declared.programs.Program.TheVariants.{Ycsb}
 use Rattle.txn_program.specs.declared.programs.Load.{Load}
 use Rattle.txn_program.specs.declared.effects.Verdict.TheVariants.{Commit}
 use Rattle.txn_program.specs.declared.effects.Effect.{Effect}
-use Rattle.txn_program.specs.declared.effects.ReadRow.{ReadRow}
+use Rattle.txn_program.specs.declared.read_rows.ReadRow.{ReadRow}
 
 -- the key of a YCSB row
 abbrev pub ycsb_key : ℕ → Key
@@ -67,6 +68,19 @@ effect_at parts p e =
       appends = filter (λ r. eqb (partition_of r.key parts) p) e.appends;
       answer = e.answer;
     }
+
+-- the same for one partition, and without one all of it
+abbrev pub is_within : Option Partition → Key → Bool
+is_within None key = true
+is_within (Some q) key = eqb (partition_of key q.parts) q.part
+
+abbrev pub rows_within : Option Partition → List Keyed → List Keyed
+rows_within None rows = rows
+rows_within (Some q) rows = filter (λ r. eqb (partition_of r.key q.parts) q.part) rows
+
+abbrev pub effect_within : Option Partition → Effect → Effect
+effect_within None e = e
+effect_within (Some q) e = effect_at q.parts q.part e
 
 abbrev pub first_key : List Access → Key
 first_key [] = ycsb_key 0

@@ -6,6 +6,7 @@ mod effects;
 mod laws;
 mod partitions;
 mod programs;
+mod read_rows;
 mod serial;
 #[cfg(test)]
 mod tests;
@@ -14,13 +15,14 @@ mod validity;
 
 pub use accesses::{accesses_of, home, ycsb_key_of};
 use deneva_base::Items;
-pub use effects::{Effect, ReadRow, Reason, Verdict, effect_at, effect_of};
+pub use effects::{Effect, Reason, Verdict, effect_of, effect_within};
 pub use laws::{
     accesses_are_lawful, effects_are_lawful, ids_are_lawful, loads_are_lawful,
     participants_are_lawful,
 };
-pub use partitions::parts_of;
+pub use partitions::{Partition, parts_of};
 pub use programs::{Load, Program, WorkKind, Workload, YcsbAct, YcsbPut, YcsbStep};
+pub use read_rows::{ReadRow, row_among};
 pub use serial::{SerialRun, SerialTxn};
 pub use validity::valid;
 

@@ -1,11 +1,29 @@
 //! Where accesses lie.
-ghost use Rattle.std.specs.Prelude.{◌≡◌, ◌≤◌, ◌<◌, ◌==◌, ℕ, IfOk, false, get_or, length};
+ghost use Rattle.std.specs.Prelude.{◌≡◌, ◌≤◌, ◌<◌, ◌==◌, ℕ, IfOk, IfSome, false, get_or, length};
 ghost use Rattle.std.specs.List.{list_any};
 ghost use Rattle.deneva_base.specs.Partitions.{partition_of};
 ghost use Rattle.txn_program.specs.Transactions as transactions;
 
-use deneva_base::{Access, ByteList, NoMemory, partition_of};
+use deneva_base::{Access, ByteList, Key, NoMemory, partition_of};
 use std::alloc::Global;
+
+/// One of the partitions of a run: `part`, counted from 0, of `parts`.
+#[derive(Clone, Copy, Debug, PartialEq, Eq)]
+pub struct Partition {
+    pub part: u8,
+    pub parts: u8,
+}
+
+/// Whether the key lies at the partition. Without one, each key does.
+pub(crate) fn is_within(made: Option<Partition>, key: Key) -> bool
+    requires { IfSome made (λ p. 1 ≤ p.parts) }
+    ensures { result ≡ transactions.is_within made key }
+{
+    match made {
+        Some(partition) => partition_of(key, partition.parts) == partition.part,
+        None => true,
+    }
+}
 
 /// Of each partition whether one of the accesses lies there.
 fn marks_of(alloc: Global, parts: u8, accesses: &[Access]) -> Result<Vec<bool>, NoMemory>

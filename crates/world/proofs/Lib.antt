@@ -1,8 +1,8 @@
+mod First
 mod Joined
 mod Positions
 mod Delivering
 mod AnyRuns
 mod Running
 mod Gathering
-mod Alike
 mod Replaying

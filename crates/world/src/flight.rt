@@ -3,9 +3,8 @@ ghost use Rattle.std.specs.Prelude.{◌≡◌, ◌++◌, ◌∷◌, [], ◌<◌,
 ghost use Rattle.std.specs.List.{remove};
 ghost use Rattle.server_core.specs.declared.messages.Mail.{Mail};
 ghost use Rattle.world.specs.Chunks.{LiesAt, joined};
-ghost use Rattle.world.specs.Replays.{Gives};
+ghost use Rattle.world.specs.Replays.{Gives, IsFirst};
 
-use crate::same::is_same;
 use deneva_base::{NoMemory, PushNoMemory};
 use server_core::{Entry, Mail};
 use std::alloc::Global;
@@ -264,13 +263,13 @@ fn join_few<T: Drop>(alloc: Global, chunks: &mut VecDeque<Chunk<T>>, number: usi
 fn gives(mail: &Mail, entry: &Entry) -> bool
     ensures { IsTrue result ↔ Gives mail.now entry.now }
 {
-    mail.from == entry.from && mail.to == entry.node && is_same(&mail.msg, &entry.msg)
+    mail.from == entry.from && mail.to == entry.node && mail.msg.is_same(&entry.msg)
 }
 
 impl Chunk<Mail> {
     /// The first place whose mail gives this entry.
     fn position(&self, entry: &Entry) -> Option<usize>
-        ensures some { IfSome result (λ place. (m : Mail) × (slice_get self.now place ≡ Some m) × Gives m entry.now) }
+        ensures some { IfSome result (λ place. IsFirst self.now entry.now place) }
         ensures none { IfNone result ((place : ℕ) (m : Mail) → slice_get self.now place ≡ Some m → Gives m entry.now → ⊥) }
     {
         for place in 0..self.len() {
@@ -285,7 +284,7 @@ impl Chunk<Mail> {
 impl Flight<Mail> {
     /// The first index whose mail gives this entry. It looks at each mail before it.
     pub fn position(&self, entry: &Entry) -> Option<usize>
-        ensures some { IfSome result (λ index. (m : Mail) × (slice_get self.now index ≡ Some m) × Gives m entry.now) }
+        ensures some { IfSome result (λ index. IsFirst self.now entry.now index) }
         ensures none { IfNone result ((index : ℕ) (m : Mail) → slice_get self.now index ≡ Some m → Gives m entry.now → ⊥) }
     {
         position_in(&self.chunks, entry)
@@ -294,7 +293,7 @@ impl Flight<Mail> {
 
 fn position_in(chunks: &VecDeque<Chunk<Mail>>, entry: &Entry) -> Option<usize>
     requires { length (joined chunks.now.items) ≤ 2 ^ 62 }
-    ensures some { IfSome result (λ index. (m : Mail) × (slice_get (joined chunks.now.items) index ≡ Some m) × Gives m entry.now) }
+    ensures some { IfSome result (λ index. IsFirst (joined chunks.now.items) entry.now index) }
     ensures none { IfNone result ((index : ℕ) (m : Mail) → slice_get (joined chunks.now.items) index ≡ Some m → Gives m entry.now → ⊥) }
 {
     let mut before = 0;

@@ -6,7 +6,6 @@ mod finishing;
 mod flight;
 mod opening;
 mod picker;
-mod same;
 mod settling;
 mod threads;
 mod world;

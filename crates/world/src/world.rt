@@ -245,7 +245,7 @@ impl<'w, S: Server<'w>> World<'w, S> {
     fn find(&mut self, entry: &Entry) -> Result<Option<usize>, NoMemory>
         ensures same { self.new ≡ self.old }
         ensures run { IsRunning S.protocol self.old }
-        ensures some { IfOk result (λ found. IfSome found (λ k. (m : Mail) × (slice_get self.old.progress.flight k ≡ Some m) × Gives m entry.now)) }
+        ensures some { IfOk result (λ found. IfSome found (λ k. IsFirst self.old.progress.flight entry.now k)) }
         ensures none { IfOk result (λ found. IfNone found ((k : ℕ) (m : Mail) → slice_get self.old.progress.flight k ≡ Some m → Gives m entry.now → ⊥)) }
     {
         settle(&mut self.flight, &mut self.held, &mut self.said)?;

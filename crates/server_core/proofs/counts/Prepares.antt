@@ -22,7 +22,8 @@ use Rattle.server_core.specs.declared.messages.Mail.{Mail}
 use Rattle.server_core.specs.Setting.{Setting, parts_of, rule_at, homes, participants}
 use Rattle.deneva_base.specs.declared.keys.Access.{Access}
 use Rattle.txn_program.specs.declared.effects.Effect.{Effect}
-use Rattle.server_core.specs.Replies.{Reply, Ballot, grants_for, votes_for, closes_for, all_voted, all_closed}
+use Rattle.server_core.specs.Replies.{Reply, grants_for, votes_for, closes_for, all_voted, all_closed}
+use Rattle.server_core.specs.declared.ballots.Ballot.{Ballot}
 use Rattle.txn_program.specs.Transactions.{numbers_below}
 use Rattle.deneva_base.specs.Partitions.{partition_of}
 use Rattle.server_core.specs.Coordinator.{told, first_no, decision, coordinator, next_ask, next_start, mail_start, prepare_to, effect_of, to_all, bound_of, asked_parts, overs, polled}

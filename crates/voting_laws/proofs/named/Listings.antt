@@ -12,7 +12,8 @@ use Rattle.server_core.specs.declared.messages.Msg.TheVariants.{Ask, Refused, Pr
 use Rattle.server_core.specs.declared.messages.Mail.{Mail}
 use Rattle.server_core.specs.declared.messages.Entry.{Entry}
 use Rattle.server_core.specs.Setting.{Setting, home, participants}
-use Rattle.server_core.specs.Replies.{Ballot, votes_for, refused_for, started_for, all_voted}
+use Rattle.server_core.specs.Replies.{votes_for, refused_for, started_for, all_voted}
+use Rattle.server_core.specs.declared.ballots.Ballot.{Ballot}
 use Rattle.server_core.specs.Coordinator.{first_no, greatest_lo, least_hi, decision}
 use Rattle.server_core.specs.VotingFits.{IsAborted}
 use Rattle.server_core.specs.Proper.{Valid}

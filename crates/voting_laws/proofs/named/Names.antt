@@ -24,7 +24,8 @@ use Rattle.server_core.specs.declared.messages.Msg.TheVariants.{Start, Ask, Gran
 use Rattle.server_core.specs.declared.messages.Mail.{Mail}
 use Rattle.server_core.specs.declared.messages.Entry.{Entry}
 use Rattle.server_core.specs.Setting.{Setting, home, loaded_at, rule_at, participants}
-use Rattle.server_core.specs.Replies.{Ballot, votes_for, started_for, all_voted}
+use Rattle.server_core.specs.Replies.{votes_for, started_for, all_voted}
+use Rattle.server_core.specs.declared.ballots.Ballot.{Ballot}
 use Rattle.deneva_base.specs.Partitions.{partition_of}
 use Rattle.server_core.specs.Coordinator.{first_no, no_in, lo_of, hi_of, greatest_lo, least_hi, coordinator}
 use Rattle.server_core.specs.Participant.{calls, participant, answer_mails, vote_mail, wake_mails}

@@ -1,8 +1,8 @@
 use Rattle.std.proofs.Common.{◌≡◌, leb, true, false, sym, ◌∙◌, refl, arith}
 use Rattle.std.specs.List.{list_any}
 use Rattle.std.proofs.lemmas.Bool.Decides.{leb_tells}
-use Rattle.deneva_base.specs.Lists.{greatest_by, least_by}
-use Rattle.coord.specs.Ballots.{says_no, lower_end, upper_end}
+use Rattle.server_core.specs.Coordinator.{greatest_lo, least_hi}
+use Rattle.coord.specs.Ballots.{says_no}
 use Rattle.coord.proofs.Deciding.{decides}
 use Rattle.coord.proofs.ballots.decide.Goals as goal
 
@@ -11,14 +11,14 @@ returns-then-any_says_no c who =
     let no : list_any says_no c.args.ballots.now ≡ true = sym c.any_says_no.ensures ∙ c.if-any_says_no.true in
     decides who c.args.ballots.now ∙ rw no refl
 
-pub returns-then-lo-least_high : goal.returns-then-lo-least_high
-returns-then-lo-least_high c who =
+pub returns-then-lo-least_hi : goal.returns-then-lo-least_hi
+returns-then-lo-least_hi c who =
     let none : list_any says_no c.args.ballots.now ≡ false = sym c.any_says_no.ensures ∙ c.if-any_says_no.false in
-    let meets : leb (greatest_by lower_end c.args.ballots.now) (least_by upper_end c.args.ballots.now) ≡ true = grind (arith, leb_tells, c.if-lo-least_high.true, c.least_high.ensures, c.greatest_low-lo.ensures) in
-    decides who c.args.ballots.now ∙ rw (none, meets, ← c.greatest_low-lo.ensures) refl
+    let meets : leb (greatest_lo c.args.ballots.now) (least_hi c.args.ballots.now) ≡ true = grind (arith, leb_tells, c.if-lo-least_hi.true, c.least_hi.ensures, c.greatest_lo-lo.ensures) in
+    decides who c.args.ballots.now ∙ rw (none, meets, ← c.greatest_lo-lo.ensures) refl
 
-pub returns-else-lo-least_high : goal.returns-else-lo-least_high
-returns-else-lo-least_high c who =
+pub returns-else-lo-least_hi : goal.returns-else-lo-least_hi
+returns-else-lo-least_hi c who =
     let none : list_any says_no c.args.ballots.now ≡ false = sym c.any_says_no.ensures ∙ c.if-any_says_no.false in
-    let apart : leb (greatest_by lower_end c.args.ballots.now) (least_by upper_end c.args.ballots.now) ≡ false = grind (arith, leb_tells, c.if-lo-least_high.false, c.least_high.ensures, c.greatest_low-lo.ensures) in
+    let apart : leb (greatest_lo c.args.ballots.now) (least_hi c.args.ballots.now) ≡ false = grind (arith, leb_tells, c.if-lo-least_hi.false, c.least_hi.ensures, c.greatest_lo-lo.ensures) in
     decides who c.args.ballots.now ∙ rw (none, apart) refl

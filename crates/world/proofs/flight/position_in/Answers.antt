@@ -1,6 +1,7 @@
 use Rattle.std.proofs.Common.{◌≡◌, ◌+◌, ◌<◌, ◌++◌, length, take, slice_get, length-append, refl, sym, ap, ◌∙◌, arith}
 use Rattle.std.proofs.lemmas.Option.{slice_get_read, slice_get_within}
 use Rattle.world.specs.Chunks.{joined}
+use Rattle.world.proofs.First.{none_before}
 use Rattle.world.proofs.Joined.{item_at, lies_here, append_cases, joined_one, short_front}
 use Rattle.world.proofs.flight.position_in.Goals as goal
 
@@ -10,7 +11,7 @@ overflow_add-result c =
     let here = slice_get_read chunks (length chunks) c.loop-number.number c.index-chunk.result.now refl (omega arith) c.index-chunk.ensures in
     let found = c.in-Some.ensures.some in
     let short = short_front chunks c.loop-number.number c.index-chunk.result.now here in
-    let within = slice_get_within c.index-chunk.result.now c.in-Some.place found.0 found.1 in
+    let within = slice_get_within c.index-chunk.result.now c.in-Some.place found.mail found.here in
     let count = c.loop-number.invariant.count in
     let few = c.requires in
     omega (arith, short, within, count, few)
@@ -21,10 +22,15 @@ returns-in-Some-clause-some c =
     let in_chunks : c.loop-number.number < length chunks = omega arith in
     let here = slice_get_read chunks (length chunks) c.loop-number.number c.index-chunk.result.now refl in_chunks c.index-chunk.ensures in
     let found = c.in-Some.ensures.some in
-    let within = slice_get_within c.index-chunk.result.now c.in-Some.place found.0 found.1 in
+    let within = slice_get_within c.index-chunk.result.now c.in-Some.place found.mail found.here in
     let count = c.loop-number.invariant.count in
     let lies = lies_here chunks c.loop-number.number c.in-Some.place (c.loop-number.before + c.in-Some.place) c.index-chunk.result.now here within in_chunks (omega (arith, count)) in
-    (found.0, item_at chunks (c.loop-number.before + c.in-Some.place) c.loop-number.number c.in-Some.place lies c.index-chunk.result.now here ∙ found.1, found.2)
+    record {
+      mail = found.mail;
+      here = item_at chunks (c.loop-number.before + c.in-Some.place) c.loop-number.number c.in-Some.place lies c.index-chunk.result.now here ∙ found.here;
+      gives = found.gives;
+      first = λ before m less at given. none_before chunks c.loop-number.number c.index-chunk.result.now here c.args.entry.now c.in-Some.place within found.first c.loop-number.invariant.none before m (omega (arith, less, count)) at given;
+    }
 
 pub overflow_add-before : goal.overflow_add-before
 overflow_add-before c =

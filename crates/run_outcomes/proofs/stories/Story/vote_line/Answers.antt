@@ -7,7 +7,7 @@ use Rattle.server_core.specs.Aborts.{is_prepare_of, is_vote_of, line_at}
 use Rattle.server_core.specs.Coordinator.{least_hi, greatest_lo}
 use Rattle.server_core.specs.Ends.{attempt}
 use Rattle.server_core.specs.declared.messages.Entry.{Entry}
-use Rattle.run_outcomes.specs.Seen.{ballot_of, no_of}
+use Rattle.run_outcomes.specs.Seen.{no_of}
 use Rattle.run_outcomes.proofs.Aborting.{found_in, no_told, apart_told}
 use Rattle.run_outcomes.proofs.stories.Story.vote_line.Goals as goal
 
@@ -17,7 +17,7 @@ returns-in-Some c r H k =
     let x = c.in-Some.no in
     let o = c.newest_prepare.result in
     let who = attempt t.id c.args.turn in
-    let bs = map ballot_of c.args.ballots.now in
+    let bs = c.args.ballots.now in
     let prepared = c.newest_prepare.ensures ∙ ap (λ (w : Attempt). find (λ (e : Bor Entry). eqb e.now.node x.part && is_prepare_of w e.now.msg) c.deref.result.now) c.attempt-who.ensures in
     c.line_at.ensures
     ∙ ap (λ (w : Attempt). line_at w x.cause (option_map (λ (e : Bor Entry). e.now) o)) c.attempt-who.ensures
@@ -29,7 +29,7 @@ returns-in-None c r H k =
     let t = c.args.self.now in
     let o = c.newest_vote.result in
     let who = attempt t.id c.args.turn in
-    let bs = map ballot_of c.args.ballots.now in
+    let bs = c.args.ballots.now in
     let voted = c.newest_vote.ensures ∙ ap (λ (w : Attempt). find (λ (e : Bor Entry). eqb e.now.node t.home && is_vote_of w e.now.msg) c.deref-in-None.result.now) c.attempt-who.ensures in
     let lo = c.greatest_lo.ensures in
     let hi = c.least_hi.ensures in

@@ -9,7 +9,7 @@ use Rattle.world.proofs.world.World.replay.Goals as goal
 pub deliver-requires : goal.deliver-requires
 deliver-requires g c =
     let found = rw c.in-Some.is at c.in_ok-k.ensures.some in
-    let within = slice_get_within c.loop-entry.self.progress.flight c.in-Some.k found.0 found.1 in
+    let within = slice_get_within c.loop-entry.self.progress.flight c.in-Some.k found.mail found.here in
     let same = c.find.ensures.same in
     λ lifetimes. ((refl, tt), subst (λ (x : Seen). c.in-Some.k < length x.progress.flight) (sym same) within)
 
@@ -42,5 +42,5 @@ loop-entry-preserved g c =
       work = c.deliver.ensures.work ∙ ap (λ (x : Seen). x.work) same ∙ inv.work;
       entries =
           ap (λ (p : Progress). p.entries) (c.in_ok-deliver-in-Some.ensures.ok ∙ ap (λ (x : Seen). deliver (says x.config x.work) c.in-Some.k x.progress) same)
-          ∙ replayed (says w.config w.work) (opening_mails w.config w.work) history i e c.requires.run.0 at run w.progress inv.entries c.find.ensures.run.run c.in-Some.k found.0 found.1 found.2;
+          ∙ replayed (says w.config w.work) (opening_mails w.config w.work) history i e c.requires.run.0 at run w.progress inv.entries c.find.ensures.run.run c.in-Some.k found.mail found.here found.gives;
     }

@@ -1,5 +1,0 @@
-use Rattle.std.proofs.Common.{length}
-use Rattle.run_outcomes.proofs.ordered.+row_at.Given as goal
-
-abbrev pub decreases-row_at : goal.decreases-row_at
-decreases-row_at l = length l.rows.now

@@ -1,7 +1,0 @@
-use Rattle.std.proofs.Common.{◌≡◌, drop}
-use Rattle.deneva_base.specs.Rows.{row_at}
-use Rattle.txn_program.proofs.effects.cells_of.Given as goal
-
--- the row is in what is left
-abbrev pub invariant-loop-keyed : goal.invariant-loop-keyed
-invariant-loop-keyed l = row_at (drop l.keyed-index l.rows) l.key ≡ row_at l.rows l.key

@@ -1,0 +1,7 @@
+use Rattle.std.proofs.Common.{◌≡◌, map, take}
+use Rattle.txn_program.specs.Transactions.{as_read}
+use Rattle.txn_program.proofs.read_rows.rows_lying.Given as goal
+
+-- the list has the rows that were passed
+abbrev pub invariant-loop-keyed : goal.invariant-loop-keyed
+invariant-loop-keyed l = map as_read l.list.items ≡ take l.keyed-index l.rows
