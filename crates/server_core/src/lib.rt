@@ -5,6 +5,7 @@
 mod loading;
 mod messages;
 mod openings;
+mod ordering;
 mod outbox;
 mod outcome_laws;
 mod outcomes;
@@ -21,6 +22,7 @@ mod transactions;
 use deneva_base::{Items, Keyed, Shared};
 pub use messages::{Entry, Mail, Msg};
 pub use openings::opening;
+pub use ordering::{BATCH, ordered_number};
 pub use outbox::Outbox;
 pub use outcome_laws::outcomes_are_in_order;
 pub use outcomes::{AbortLine, Decided, Giveup, Outcome, RunKind};
