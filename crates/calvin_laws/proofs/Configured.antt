@@ -1,31 +1,34 @@
 -- A run under Calvin is a run of its setting, and what is said of that holds of the configuration and workload.
-use Rattle.std.proofs.Common.{append-nil, ◌∷◌, inl, inr, ⊎_elim, eqb, ap₂, cond, ℕ, ◌≤◌, length, map, refl, ◌≡◌, List, [], None, sym, ap, ◌∙◌, subst, inl}
+use Rattle.std.proofs.Common.{append-nil, ◌∷◌, inl, inr, ⊎_elim, eqb, ap₂, cond, ℕ, ◌+◌, ◌*◌, ◌≤◌, length, map, refl, ◌≡◌, List, [], None, sym, ap, ◌∙◌, subst, inl}
 use Rattle.deneva_base.specs.Lists.{IsIn}
 use Rattle.deneva_base.specs.Partitions.{partition_of}
 use Rattle.deneva_base.specs.Rows.{row_of}
 use Rattle.deneva_base.specs.declared.config.Config.{Config}
+use Rattle.deneva_base.specs.declared.config.Protocol.{Protocol}
 use Rattle.deneva_base.specs.declared.config.Protocol.TheVariants.{Calvin}
 use Rattle.deneva_base.specs.declared.keys.Key.{Key}
 use Rattle.deneva_base.specs.declared.numbers.TxnId.{TxnId}
-use Rattle.txn_program.specs.Serial.{all_ids}
+use Rattle.txn_program.specs.Serial.{all_ids, serial as serial_run}
 use Rattle.txn_program.specs.Valid.{IsValid}
 use Rattle.txn_program.specs.declared.programs.Workload.{Workload}
 use Rattle.txn_program.proofs.WorkloadLaws.{distinct_loaded}
 use Rattle.server_core.specs.Atomic.{IsAtomic}
-use Rattle.server_core.specs.CalvinAtomic.{IsFinishedAt}
+use Rattle.server_core.specs.CalvinAtomic.{FinishedOnce}
 use Rattle.server_core.specs.Calvin.{says, opening}
 use Rattle.server_core.specs.CalvinProper.{Valid}
 use Rattle.server_core.specs.CalvinSerial.{serial_after, serial_lines}
 use Rattle.server_core.specs.Configs.{IsConfig}
 use Rattle.server_core.specs.Family.{Family, family, calvin}
 use Rattle.server_core.specs.Fits.{AllFitting, AllFittingBy}
-use Rattle.server_core.specs.GlobalOrder.{order, number}
+use Rattle.server_core.specs.GlobalOrder.{epochs, order, number}
+use Rattle.server_core.specs.GlobalOutcome.{ordered_line, in_global_order}
 use Rattle.server_core.specs.Named.{AllNamed}
 use Rattle.server_core.specs.IsSerial.{IsSerial, Rises, ran}
 use Rattle.server_core.specs.CalvinScheduler.{ordered_rows, now}
 use Rattle.server_core.specs.NodeRows.{rows_of_node}
-use Rattle.server_core.specs.Outcome.{outcome, outcome_in, outcome_with, rows_of}
-use Rattle.server_core.specs.CalvinLimits.{most_ordered}
+use Rattle.server_core.specs.Outcome.{outcome, outcome_in, outcome_with, last_rows, rows_of}
+use Rattle.server_core.specs.CalvinLimits.{is_clock, is_about, most_ordered}
+use Rattle.server_core.specs.Limits.{count_entries}
 use Rattle.server_core.specs.Picks.{Progress, deliveries, position, picked, most_entries}
 use Rattle.server_core.specs.Runs.{heard, Reaches}
 use Rattle.server_core.specs.Says.{IsRun, IsQuiet}
@@ -34,16 +37,18 @@ use Rattle.server_core.specs.declared.messages.Entry.{Entry}
 use Rattle.server_core.specs.declared.messages.Mail.{Mail}
 use Rattle.server_core.specs.declared.outcomes.Decided.{Decided}
 use Rattle.server_core.specs.declared.outcomes.Outcome.{Outcome}
+use Rattle.server_core.specs.declared.outcomes.RunKind.TheVariants.{Under}
+use Rattle.txn_program.specs.declared.serial.SerialRun.{SerialRun}
 use Rattle.server_core.specs.declared.schedules.Schedule.{Schedule}
 use Rattle.server_core.proofs.configured.Families.{family_orders}
 use Rattle.server_core.proofs.configured.CalvinSettings.{valid, forms, limits}
 use Rattle.server_core.proofs.flight.AnyDeliveries.{position_picks}
-use Rattle.calvin_laws.proofs.serial.FinishedOnce.{finished, finished_at}
-use Rattle.calvin_laws.proofs.counts.Bounds.{all_most}
+use Rattle.calvin_laws.proofs.serial.FinishedOnce.{finished, finished_once}
+use Rattle.calvin_laws.proofs.counts.Bounds.{clock_most, each_most, all_most}
 use Rattle.calvin_laws.proofs.counts.Deliveries.{schedule_run, ends}
-use Rattle.calvin_laws.proofs.counts.Limits.{each_fits}
+use Rattle.calvin_laws.proofs.counts.Limits.{run_short, number_small, each_fits}
 use Rattle.server_core.proofs.lists.ListTests.{same_number}
-use Rattle.calvin_laws.proofs.serial.Outcomes.{runs_same, after_same, ids_back, numbers_are, lines_rise, rows_are}
+use Rattle.calvin_laws.proofs.serial.Outcomes.{runs_same, after_same, ids_back, lines_back, numbers_are, lines_rise, rows_are}
 use Rattle.server_core.proofs.serial.SerialMaps.{serial_listed, row_listed}
 use Rattle.server_core.proofs.serial.InOrder.{calvin_order}
 use Rattle.calvin_laws.proofs.serial.EachOnce.{each_once}
@@ -96,6 +101,52 @@ module _ (c : Config) (w : Workload) (is : c.protocol ≡ Calvin) (config : IsCo
       (sym kin)
       (subst (λ l. ordered.IsRun s last.entries l) (ends s v pick (position_picks schedule) start refl refl) (schedule_run s v pick 0 (most_ordered s) start refl))
 
+  abbrev lines : List Decided
+  lines = serial_lines s s.loaded (order s)
+
+  rise : Rises lines
+  rise = lines_rise s v (workload.distinct c w good) (workload.distinct_appends c w good)
+
+  replayed : serial_by_key s s.loaded (map (λ (l : Decided). l.number.id) lines) ≡ map ran lines
+  replayed = ap (serial_by_key s s.loaded) (ids_back s s.loaded (order s)) ∙ runs_same s s.loaded (order s)
+
+  last : (key : Key) → rows_after s s.loaded (map (λ (l : Decided). l.number.id) lines) key ≡ rows_of s lines key
+  last key =
+      ap (λ xs. rows_after s s.loaded xs key) (ids_back s s.loaded (order s))
+      ∙ ap (λ m. m key) (after_same s s.loaded (order s))
+      ∙ rows_are s v (workload.distinct c w good) (workload.distinct_appends c w good) key
+
+  same_serial : serial_run w (map (λ (l : Decided). l.number.id) lines) ≡ record { runs = map ran lines; rows = last_rows s w.load.rows lines }
+  same_serial = serial_listed c w (distinct_loaded w good) lines replayed last
+
+  -- so the serial execution gives these lines and these rows
+  lines_ordered : outcome_with c w lines [] [] ≡ in_global_order c.parts w
+  lines_ordered =
+      let as_outcome : Protocol → SerialRun → Outcome = λ p run. record { kind = Under p; parts = c.parts; decided = map (ordered_line s) run.runs; giveups = []; aborts = []; rows = run.rows } in
+      ap (λ ls. record { kind = Under c.protocol; parts = c.parts; decided = ls; giveups = []; aborts = []; rows = last_rows s w.load.rows lines }) (sym (lines_back s s.loaded (order s)))
+      ∙ ap₂ as_outcome is (sym same_serial ∙ ap (serial_run w) (ids_back s s.loaded (order s)))
+
+  pub order_lines : (in_global_order c.parts w).decided ≡ lines
+  order_lines = ap (λ (o : Outcome). o.decided) (sym lines_ordered)
+
+  pub order_rows : (key : Key) → row_of (in_global_order c.parts w).rows key ≡ serial_after s s.loaded (order s) key
+  order_rows key =
+      ap (λ (o : Outcome). row_of o.rows key) (sym lines_ordered)
+      ∙ row_listed c w (distinct_loaded w good) lines replayed last key
+      ∙ sym (rows_are s v (workload.distinct c w good) (workload.distinct_appends c w good) key)
+
+  pub clock : (H : List Entry) (flight : List Mail) → IsRun c w H flight → count_entries (λ e. is_clock e.msg) H ≤ epochs s * (c.parts + c.parts * c.parts)
+  clock H flight r = clock_most s v H flight (ordered_run H flight r)
+
+  pub each_entries : (H : List Entry) (flight : List Mail) (x : TxnId) → IsRun c w H flight → IsIn x (all_ids w) → let m = length (parts_for s x) in count_entries (λ e. is_about x e.msg) H ≤ m * m + m
+  each_entries H flight x r i = each_most s v H flight (ordered_run H flight r) x i
+
+  pub few_entries : (H : List Entry) (flight : List Mail) → IsRun c w H flight → length H ≤ 3060000
+  few_entries H flight r = run_short s (limits c w good config) v H flight (ordered_run H flight r)
+
+  pub small_numbers : (x : TxnId) → IsIn x (all_ids w) → (number s x).n ≤ 160000
+  small_numbers x i = number_small s (limits c w good config) v x i
+
   module _ (H : List Entry) (r : IsQuiet c w H) where
     run : ordered.IsRun s H []
     run = ordered_run H [] r
@@ -103,33 +154,21 @@ module _ (c : Config) (w : Workload) (is : c.protocol ≡ Calvin) (config : IsCo
     pub atomic : IsAtomic c w H
     atomic x i = subst (λ (f : Family). f.whole s H x) (sym kin) (finished s v H run x i)
 
-    pub finished_here : (x : TxnId) (p : ℕ) → IsIn x (all_ids w) → IsIn p (parts_for s x) → IsFinishedAt s H x p
-    finished_here x p i j = finished_at s x p v H run i j
-
-    abbrev lines : List Decided
-    lines = serial_lines s s.loaded (order s)
+    pub finished_here : (x : TxnId) → IsIn x (all_ids w) → FinishedOnce s H x
+    finished_here x i = finished_once s v H run x i
 
     -- the outcome is that of the transactions one at a time in the global order
-    pub outcome_is : outcome c w H ≡ outcome_with c w lines [] []
+    outcome_is : outcome c w H ≡ outcome_with c w lines [] []
     outcome_is = ap (λ f. outcome_in f c w H) kin ∙ ap (λ ls. outcome_with c w ls [] []) (lines_serial s v H run)
 
-    rise : Rises lines
-    rise = lines_rise s v (workload.distinct c w good) (workload.distinct_appends c w good)
-
-    replayed : serial_by_key s s.loaded (map (λ (l : Decided). l.number.id) lines) ≡ map ran lines
-    replayed = ap (serial_by_key s s.loaded) (ids_back s s.loaded (order s)) ∙ runs_same s s.loaded (order s)
-
-    last : (key : Key) → rows_after s s.loaded (map (λ (l : Decided). l.number.id) lines) key ≡ rows_of s lines key
-    last key =
-        ap (λ xs. rows_after s s.loaded xs key) (ids_back s s.loaded (order s))
-        ∙ ap (λ m. m key) (after_same s s.loaded (order s))
-        ∙ rows_are s v (workload.distinct c w good) (workload.distinct_appends c w good) key
+    pub ordered_outcome : outcome c w H ≡ in_global_order c.parts w
+    ordered_outcome = outcome_is ∙ lines_ordered
 
     pub serial : IsSerial w (outcome c w H)
     serial =
         subst (IsSerial w) (sym outcome_is) (record {
           rising = rise;
-          same = serial_listed c w (distinct_loaded w good) lines replayed last;
+          same = same_serial;
           whole = subst (IsPermutation s.ids) (sym (ids_back s s.loaded (order s)) ∙ sym (append-nil (map (λ (l : Decided). l.number.id) lines))) (each_once s v);
         })
 
@@ -169,4 +208,4 @@ module _ (c : Config) (w : Workload) (is : c.protocol ≡ Calvin) (config : IsCo
     numbered = ap (λ (o : Outcome). map (λ (l : Decided). l.number) o.decided) outcome_is ∙ numbers_are s s.loaded (order s)
 
   pub one : (H K : List Entry) → IsQuiet c w H → IsQuiet c w K → outcome c w H ≡ outcome c w K
-  one H K r q = outcome_is H r ∙ sym (outcome_is K q)
+  one H K r q = ordered_outcome H r ∙ sym (ordered_outcome K q)

@@ -13,7 +13,7 @@ ghost use Rattle.txn_program.specs.Serial.{all_ids};
 ghost use Rattle.txn_program.specs.Valid.{IsValid};
 ghost use Rattle.txn_program.specs.declared.programs.Workload.{Workload};
 ghost use Rattle.server_core.specs.Atomic.{IsAtomic};
-ghost use Rattle.server_core.specs.CalvinAtomic.{IsFinishedAt};
+ghost use Rattle.server_core.specs.CalvinAtomic.{FinishedOnce};
 ghost use Rattle.server_core.specs.Calvin.{says, opening};
 ghost use Rattle.server_core.specs.CalvinFits.{AllFit};
 ghost use Rattle.server_core.specs.CalvinLimits.{is_clock, is_about, most_ordered};
@@ -23,6 +23,7 @@ ghost use Rattle.server_core.specs.CalvinSerial.{RisingIds, serial_after, serial
 ghost use Rattle.server_core.specs.Configs.{IsConfig};
 ghost use Rattle.server_core.specs.Fits as fit;
 ghost use Rattle.server_core.specs.GlobalOrder.{Slot, epochs, batch, order, before, numbered, number};
+ghost use Rattle.server_core.specs.GlobalOutcome.{in_global_order};
 ghost use Rattle.server_core.specs.IsSerial.{IsSerial};
 ghost use Rattle.server_core.specs.Limits.{count_entries};
 ghost use Rattle.server_core.specs.Named.{AllNamed};
@@ -99,31 +100,45 @@ pub fn calvin_deliveries_are_runs()
 
 /// In every quiet run the decided transactions are those of the global order, each with what it reads at its turn where
 /// they are executed one at a time, the rows of the nodes are the last rows of that, and each participant of each
-/// transaction has said once, with the number of the order, that it is finished.
+/// transaction, and no other node, has told its home once, with the number of the order, that it is finished.
 pub fn calvin_quiet_runs_are_serial()
     ensures law { (s : Setting) (H : List Entry) → Valid s → IsRun s H [] → ordered_lines s H ≡ serial_lines s s.loaded (order s) }
     ensures numbers { (s : Setting) (H : List Entry) → Valid s → IsRun s H [] → map (λ (l : Decided). l.number) (ordered_lines s H) ≡ map (number s) (order s) }
     ensures rows { (s : Setting) (H : List Entry) (key : Key) → Valid s → IsRun s H [] → let p = partition_of key s.parts in ordered_rows s p (heard p H) key ≡ serial_after s s.loaded (order s) key }
-    ensures finished { (s : Setting) (H : List Entry) (x : TxnId) (p : ℕ) → Valid s → IsRun s H [] → IsIn x s.ids → IsIn p (parts_for s x) → IsFinishedAt s H x p }
+    ensures finished { (s : Setting) (H : List Entry) (x : TxnId) → Valid s → IsRun s H [] → IsIn x s.ids → FinishedOnce s H x }
+{}
+
+/// The outcome of the serial execution in the global order, which names no partition's reads, has the lines and the rows by
+/// which the laws of runs go: each transaction reads what those before it leave.
+pub fn global_order_is_serial()
+    ensures lines { (c : Config) (w : Workload) → IsConfig c → IsValid w → c.protocol ≡ Calvin → (in_global_order c.parts w).decided ≡ serial_lines (setting c w) (setting c w).loaded (order (setting c w)) }
+    ensures rows { (c : Config) (w : Workload) (key : Key) → IsConfig c → IsValid w → c.protocol ≡ Calvin → row_of (in_global_order c.parts w).rows key ≡ serial_after (setting c w) (setting c w).loaded (order (setting c w)) key }
 {}
 
 /// What holds of every run of Calvin, whatever the configuration, the valid workload and the order of deliveries. In
-/// every run each mail in flight fits its node, the run is no longer than a bound that the configuration and the workload
-/// give, and no abort is listed. What a schedule picks is a quiet run. In every quiet run each transaction is finished
-/// once at each of its participants and nowhere else; each is decided, in the order and with the number of the global order;
-/// executed one at a time in that order they have the same reads and final rows, and those are the nodes' rows. So all quiet runs have
-/// one outcome.
+/// every run each mail in flight fits its node, no abort is listed, and the run is no longer than a bound that the
+/// configuration and the workload give: with N nodes and E epochs at most E (N + N N) Ticks and Batches, and m m + m
+/// entries of a transaction with m participants, fewer than 2^32 in all; and all numbers are below 2^48. What a schedule
+/// picks is a quiet run. In every quiet run each transaction is finished once at each of its participants and nowhere else;
+/// each is decided, in the order and with the number of the global order; executed one at a time in that order they have the
+/// same reads and final rows, and those are the nodes' rows. So all quiet runs have one outcome, that of the serial execution
+/// in the global order.
 pub fn calvin_runs_are_right()
     ensures fits { (c : Config) (w : Workload) (H : List Entry) (flight : List Mail) → IsConfig c → IsValid w → c.protocol ≡ Calvin → any.IsRun c w H flight → fit.AllFitting c w H flight }
     ensures short { (c : Config) (w : Workload) (H : List Entry) (flight : List Mail) → IsConfig c → IsValid w → c.protocol ≡ Calvin → any.IsRun c w H flight → length H ≤ most_entries c w }
+    ensures clock { (c : Config) (w : Workload) (H : List Entry) (flight : List Mail) → IsConfig c → IsValid w → c.protocol ≡ Calvin → any.IsRun c w H flight → count_entries (λ e. is_clock e.msg) H ≤ epochs (setting c w) * (c.parts + c.parts * c.parts) }
+    ensures each { (c : Config) (w : Workload) (H : List Entry) (flight : List Mail) (x : TxnId) → IsConfig c → IsValid w → c.protocol ≡ Calvin → any.IsRun c w H flight → IsIn x (all_ids w) → let m = length (parts_for (setting c w) x) in count_entries (λ e. is_about x e.msg) H ≤ m * m + m }
+    ensures small { (c : Config) (w : Workload) (H : List Entry) (flight : List Mail) → IsConfig c → IsValid w → c.protocol ≡ Calvin → any.IsRun c w H flight → length H < 2 ^ 32 }
+    ensures numbers { (c : Config) (w : Workload) (x : TxnId) → IsConfig c → IsValid w → c.protocol ≡ Calvin → IsIn x (all_ids w) → (number (setting c w) x).n < 2 ^ 48 }
     ensures named { (c : Config) (w : Workload) (H : List Entry) → c.protocol ≡ Calvin → AllNamed c w H }
     ensures picked { (c : Config) (w : Workload) (schedule : Schedule) → IsConfig c → IsValid w → c.protocol ≡ Calvin → IsQuiet c w (picked c w schedule) }
     ensures atomic { (c : Config) (w : Workload) (H : List Entry) → IsConfig c → IsValid w → c.protocol ≡ Calvin → IsQuiet c w H → IsAtomic c w H }
-    ensures finished { (c : Config) (w : Workload) (H : List Entry) (x : TxnId) (p : ℕ) → IsConfig c → IsValid w → c.protocol ≡ Calvin → IsQuiet c w H → IsIn x (all_ids w) → IsIn p (parts_for (setting c w) x) → IsFinishedAt (setting c w) H x p }
+    ensures finished { (c : Config) (w : Workload) (H : List Entry) (x : TxnId) → IsConfig c → IsValid w → c.protocol ≡ Calvin → IsQuiet c w H → IsIn x (all_ids w) → FinishedOnce (setting c w) H x }
     ensures serial { (c : Config) (w : Workload) (H : List Entry) → IsConfig c → IsValid w → c.protocol ≡ Calvin → IsQuiet c w H → IsSerial w (outcome c w H) }
     ensures told { (c : Config) (w : Workload) (H : List Entry) → IsConfig c → IsValid w → c.protocol ≡ Calvin → IsQuiet c w H → IsTold (setting c w) H (outcome c w H) }
     ensures in_order { (c : Config) (w : Workload) (H : List Entry) → IsConfig c → IsValid w → c.protocol ≡ Calvin → IsQuiet c w H → InReportOrder (outcome c w H) }
     ensures rows { (c : Config) (w : Workload) (H : List Entry) (key : Key) → IsConfig c → IsValid w → c.protocol ≡ Calvin → IsQuiet c w H → rows_of_node c w (partition_of key c.parts) (heard (partition_of key c.parts) H) key ≡ row_of (outcome c w H).rows key }
+    ensures ordered { (c : Config) (w : Workload) (H : List Entry) → IsConfig c → IsValid w → c.protocol ≡ Calvin → IsQuiet c w H → outcome c w H ≡ in_global_order c.parts w }
     ensures one { (c : Config) (w : Workload) (H K : List Entry) → IsConfig c → IsValid w → c.protocol ≡ Calvin → IsQuiet c w H → IsQuiet c w K → outcome c w H ≡ outcome c w K }
     ensures order { (c : Config) (w : Workload) (H : List Entry) → IsConfig c → IsValid w → c.protocol ≡ Calvin → IsQuiet c w H → map (λ (l : Decided). l.number) (outcome c w H).decided ≡ map (number (setting c w)) (order (setting c w)) }
 {}

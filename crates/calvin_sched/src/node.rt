@@ -78,7 +78,7 @@ impl<'w> Server<'w> for CalvinNode<'w> {
         let count = epochs(work, config.parts) as usize * usize::from(config.parts);
         Ok(CalvinNode {
             role,
-            sequencer: Sequencer::begin(alloc, config, part, work)?,
+            sequencer: Sequencer::begin(role)?,
             numbers: numbers_of(alloc, work, config.parts)?,
             counts: participant_counts(alloc, work, config.parts)?,
             batches: Batches::begin(alloc, count)?,

@@ -1,19 +1,16 @@
 //! The global order.
-ghost use Rattle.std.specs.Prelude.{◌≡◌, ◌≤◌, ◌<◌, ◌/◌, ◌%◌, IfOk, map, length, filter, take, eqb};
+ghost use Rattle.std.specs.Prelude.{◌≡◌, ◌≤◌, IfOk, map, length, filter, take, eqb};
 ghost use Rattle.deneva_base.specs.Lists.{IsIn};
 ghost use Rattle.deneva_base.specs.declared.config.Config.{Config};
 ghost use Rattle.txn_program.specs.Serial.{all_ids};
 ghost use Rattle.txn_program.specs.Valid.{IsValid};
 ghost use Rattle.server_core.specs.GlobalOrder as global;
-ghost use Rattle.server_core.specs.GlobalOrder.{numbered};
 ghost use Rattle.server_core.specs.Setting.{setting, home};
 
 use deneva_base::{NoMemory, Number, TxnId};
+use server_core::{BATCH, ordered_number};
 use std::alloc::Global;
 use txn_program::{Workload, home};
-
-/// How many transactions of a sequencer make a batch.
-pub(crate) const BATCH: usize = 8;
 
 /// How many of the first `limit` transactions of the file have their home at the node.
 fn count_homes(work: &Workload, parts: u8, part: u8, limit: usize) -> usize
@@ -46,16 +43,6 @@ pub fn epochs(work: &Workload, parts: u8) -> u32
     most as u32
 }
 
-/// The number of the transaction that is at this index, counted from 0, of the home transactions of a sequencer: with N
-/// sequencers, the one at index `i` of epoch `e` of sequencer `s` has (e N + s) 8 + i + 1.
-fn number_at(parts: u8, seq: u8, index: usize) -> u64
-    requires small { index < 10000 }
-    ensures { result ≡ numbered parts (index / 8) seq (index % 8) }
-{
-    let batch = (index / BATCH) as u64 * u64::from(parts) + u64::from(seq);
-    batch * BATCH as u64 + (index % BATCH) as u64 + 1
-}
-
 /// The number of a transaction in the global order. It takes no memory, and time by the transactions before it.
 pub fn calvin_number(work: &Workload, parts: u8, id: TxnId) -> Number
     requires parts { 1 ≤ parts }
@@ -67,7 +54,7 @@ pub fn calvin_number(work: &Workload, parts: u8, id: TxnId) -> Number
     let seq = home(&work.load, work.programs.get(at), parts);
     let index = count_homes(work, parts, seq, at);
     Number {
-        n: number_at(parts, seq, index),
+        n: ordered_number(parts, seq, index),
         id,
     }
 }
@@ -85,7 +72,7 @@ pub fn numbers_of(alloc: Global, work: &Workload, parts: u8) -> Result<Vec<Numbe
         let index = counts[usize::from(seq)];
         counts[usize::from(seq)] += 1;
         numbers.push(Number {
-            n: number_at(parts, seq, index),
+            n: ordered_number(parts, seq, index),
             id: TxnId(at as u32 + 1),
         })?;
     }

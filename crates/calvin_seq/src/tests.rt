@@ -7,7 +7,7 @@ use deneva_base::{
     ByteList, Cell, CellList, Config, IdList, Key, Keyed, NoMemory, Number, Protocol, Row, RowList,
     TxnId,
 };
-use server_core::{Mail, Msg, Outbox};
+use server_core::{Mail, Msg, Outbox, Role};
 use std::alloc::Global;
 use std::test::Fail;
 use txn_program::{Load, Program, ProgramList, StepList, WorkKind, Workload, YcsbAct, YcsbStep};
@@ -128,7 +128,7 @@ fn batches_go_to_each_node(rt: HostRuntime) -> Result<(), Fail> {
         attempts: 1,
         limit: 1,
     };
-    let sequencer = Sequencer::begin(alloc, config, 1, &work)?;
+    let sequencer = Sequencer::begin(Role::new(alloc, config, 1, &work))?;
     let mut out = Outbox::new(alloc);
     sequencer.tick(0, &mut out)?;
     sequencer.tick(1, &mut out)?;

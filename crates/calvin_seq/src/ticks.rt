@@ -1,8 +1,6 @@
 //! What a sequencer says.
 ghost use Rattle.std.specs.Prelude.{◌≡◌, ◌<◌, ◌++◌, ◌∷◌, List, IfOk, OnOk, OnErr};
-ghost use Rattle.txn_program.specs.Valid.{IsValid};
 ghost use Rattle.server_core.specs.Calvin.{says};
-ghost use Rattle.server_core.specs.Configs.{IsConfig};
 ghost use Rattle.server_core.specs.GlobalOrder.{Slot, batch, epochs};
 ghost use Rattle.server_core.specs.Setting.{setting, homes};
 ghost use Rattle.server_core.specs.declared.messages.Msg as messages;
@@ -10,29 +8,18 @@ ghost use Rattle.server_core.specs.declared.messages.Msg.TheVariants.{Tick};
 ghost use Rattle.server_core.specs.Roles.{role_of, setting_of};
 ghost use Rattle.calvin_seq.specs.Sequencers.{role_in};
 
-use crate::order::{BATCH, epochs as epochs_of};
+use crate::order::epochs as epochs_of;
 use crate::sequencer::Sequencer;
-use deneva_base::{Config, IdList, NoMemory, TxnId};
-use server_core::{Mail, MailList, Msg, Outbox, Role};
-use std::alloc::Global;
-use txn_program::Workload;
+use deneva_base::{IdList, NoMemory, TxnId};
+use server_core::{BATCH, Mail, MailList, Msg, Outbox, Role};
 
 impl<'w> Sequencer<'w> {
-    /// The sequencer of the node `part`, counted from 0. It has closed no epoch.
-    pub fn begin(
-        alloc: Global,
-        config: Config,
-        part: u8,
-        work: &'w Workload,
-    ) -> Result<Sequencer<'w>, NoMemory>
-        requires config { IsConfig config }
-        requires valid { IsValid work.now }
-        requires part { part < config.parts }
-        ensures { IfOk result (λ s. role_of (role_in s) ≡ record { config = config; work = work.now; part = part }) }
+    /// The sequencer of a node. It has closed no epoch.
+    pub fn begin(role: Role<'w>) -> Result<Sequencer<'w>, NoMemory>
+        ensures { IfOk result (λ s. role_of (role_in s) ≡ role_of role.entry) }
     {
-        let role = Role::new(alloc, config, part, work);
         let homes = role.homes()?;
-        let epochs = epochs_of(work, config.parts);
+        let epochs = epochs_of(role.work, role.config.parts);
         Ok(Sequencer {
             role,
             homes,

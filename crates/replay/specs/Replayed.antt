@@ -1,33 +1,20 @@
 -- What the run of a workload is, and what came of it.
-use Rattle.std.specs.Prelude.{◌≡◌, ℕ, [], reverse}
+use Rattle.std.specs.Prelude.{◌≡◌, reverse}
 use Rattle.deneva_base.specs.declared.config.Config.{Config}
 use Rattle.deneva_base.specs.declared.config.Protocol.TheVariants.{Calvin}
 use Rattle.txn_program.specs.declared.programs.Workload.{Workload}
 use Rattle.server_core.specs.Atomic.{IsAtomic}
-use Rattle.server_core.specs.CalvinSerial.{serial_lines}
-use Rattle.server_core.specs.GlobalOrder.{order}
+use Rattle.server_core.specs.GlobalOutcome.{in_global_order}
 use Rattle.server_core.specs.IsSerial.{IsSerial}
 use Rattle.server_core.specs.Named.{AllNamed}
-use Rattle.server_core.specs.Outcome.{outcome, outcome_with}
+use Rattle.server_core.specs.Outcome.{outcome}
 use Rattle.server_core.specs.Picks.{picked}
 use Rattle.server_core.specs.ReportOrder.{InReportOrder}
 use Rattle.server_core.specs.Says.{IsQuiet}
 use Rattle.server_core.specs.Setting.{setting}
 use Rattle.server_core.specs.Told.{IsTold}
-use Rattle.server_core.specs.declared.outcomes.Outcome.{Outcome}
 use Rattle.server_core.specs.declared.schedules.Schedule.{Schedule}
 use Rattle.replay.specs.declared.runs.Ran.{Ran}
-
--- a configuration under Calvin, which tries each transaction once
-abbrev pub in_order : ℕ → Config
-in_order parts = record { protocol = Calvin; parts = parts; attempts = 1; limit = 1 }
-
--- the outcome over so many partitions of the transactions executed one at a time on one map in Calvin's global order, with
--- the numbers of that order
-abbrev pub in_global_order : ℕ → Workload → Outcome
-in_global_order parts w =
-    let s = setting (in_order parts) w in
-    outcome_with (in_order parts) w (serial_lines s s.loaded (order s)) [] []
 
 -- the run that the schedule picks, which has nothing in flight after it, and its outcome: its decided transactions,
 -- executed one at a time in the order of their numbers, give each its reads and the final rows; each transaction is decided

@@ -1,10 +1,9 @@
 //! What came of a run of Calvin.
-ghost use Rattle.std.specs.Prelude.{◌≡◌, ◌↔◌, ◌<◌, ◌≤◌, ◌/◌, ◌%◌, IsTrue, List, map, reverse, length, IfOk};
+ghost use Rattle.std.specs.Prelude.{◌≡◌, ◌↔◌, ◌<◌, ◌≤◌, IsTrue, List, map, reverse, length, IfOk};
 ghost use Rattle.std.specs.List.{All, list_all};
 ghost use Rattle.deneva_base.specs.Rows as base_rows;
 ghost use Rattle.deneva_base.specs.declared.config.Protocol.TheVariants.{Calvin};
 ghost use Rattle.txn_program.specs.Serial.{all_ids};
-ghost use Rattle.server_core.specs.GlobalOrder.{numbered};
 ghost use Rattle.server_core.specs.CalvinScheduler as ordered;
 ghost use Rattle.server_core.specs.Outcome.{outcome};
 ghost use Rattle.server_core.specs.declared.messages.Entry as messages;
@@ -17,7 +16,7 @@ use crate::lists::in_number_order;
 use crate::stories::{Story, stories_of};
 use deneva_base::{Access, Key, Keyed, NoMemory, Row, RowList, TxnId, partition_of};
 use server_core::{
-    AbortList, Decided, DecidedList, Entry, GiveupList, Msg, Outcome, Role, RunKind,
+    AbortList, Decided, DecidedList, Entry, GiveupList, Msg, Outcome, Role, RunKind, ordered_number,
 };
 use std::alloc::Global;
 use txn_program::row_among;
@@ -98,14 +97,6 @@ fn collected(
     Ok(reads)
 }
 
-/// The number in the global order of the transaction at this place among those of its home.
-fn number_of(parts: u8, home: u8, place: u64) -> u64
-    requires { place ≤ 10000 }
-    ensures { result ≡ numbered parts (place / 8) home (place % 8) }
-{
-    (place / 8 * u64::from(parts) + u64::from(home)) * 8 + place % 8 + 1
-}
-
 impl Story<'_> {
     /// Whether every participant has finished the transaction.
     pub(crate) fn is_finished(&self) -> bool
@@ -115,11 +106,11 @@ impl Story<'_> {
     }
 
     /// The line of the transaction, which every participant has finished, at this place among those of its home.
-    fn finished_line(&self, role: Role<'_>, place: u64) -> Result<Decided, NoMemory>
+    fn finished_line(&self, role: Role<'_>, place: usize) -> Result<Decided, NoMemory>
         requires { place ≤ 10000 }
         ensures { IfOk result (λ line. (H : List messages.Entry) → Tells role.entry H self.now → IsPlace (setting_of role.entry) self.now.id place → line ≡ finished_line (setting_of role.entry) H self.now.id) }
     {
-        let n = number_of(role.config.parts, self.home, place);
+        let n = ordered_number(role.config.parts, self.home, place);
         let reads = collected(role, self.id, self.accesses.as_slice(), &self.messages)?;
         let line = self.decided_as(role, n, reads)?;
         Ok(line)
@@ -132,7 +123,7 @@ fn finished_lines(role: Role<'_>, stories: &[Story<'_>]) -> Result<DecidedList, 
     requires homes { All (λ t. t.home < role.config.parts) stories.now }
     ensures { IfOk result (λ list. (H : List messages.Entry) → All (Tells role.entry H) stories.now → map (λ t. t.id) stories.now ≡ all_ids role.entry.work.now → list ≡ finished_lines_of (setting_of role.entry) H (all_ids role.entry.work.now)) }
 {
-    let mut places = vec![in role.alloc; 0_u64; usize::from(role.config.parts)]?;
+    let mut places = vec![in role.alloc; 0_usize; usize::from(role.config.parts)]?;
     let mut list = DecidedList::new(role.alloc);
     for story in stories {
         let home = usize::from(story.home);

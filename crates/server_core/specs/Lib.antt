@@ -27,6 +27,7 @@ pub mod Lines
 pub mod CalvinAtomic
 pub mod Family
 pub mod Outcome
+pub mod GlobalOutcome
 pub mod NodeRows
 pub mod IsSerial
 pub mod ReportOrder

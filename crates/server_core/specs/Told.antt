@@ -1,15 +1,16 @@
 -- What the messages of a run say of a transaction's end at each partition.
-use Rattle.std.specs.Prelude.{◌≡◌, ℕ, ◌==◌, ◌&&◌, List, [], ◌∷◌, ◌++◌, if◌then◌else◌}
+use Rattle.std.specs.Prelude.{◌≡◌, ℕ, ◌==◌, List, [], ◌∷◌, ◌++◌, if◌then◌else◌}
 use Rattle.std.specs.List.{flat_map, list_any}
 use Rattle.deneva_base.specs.Keys.{id_eq}
 use Rattle.deneva_base.specs.Lists.{IsIn}
 use Rattle.deneva_base.specs.declared.numbers.Number.{Number}
 use Rattle.deneva_base.specs.declared.numbers.TxnId.{TxnId}
+use Rattle.server_core.specs.CalvinAtomic.{finished_numbers}
 use Rattle.server_core.specs.Runs.{heard}
-use Rattle.server_core.specs.Setting.{Setting, home}
+use Rattle.server_core.specs.Setting.{Setting}
 use Rattle.server_core.specs.declared.messages.Entry.{Entry}
 use Rattle.server_core.specs.declared.messages.Msg.{Msg}
-use Rattle.server_core.specs.declared.messages.Msg.TheVariants.{Commit, Finished}
+use Rattle.server_core.specs.declared.messages.Msg.TheVariants.{Commit}
 use Rattle.server_core.specs.declared.outcomes.Decided.{Decided}
 use Rattle.server_core.specs.declared.outcomes.Giveup.{Giveup}
 use Rattle.server_core.specs.declared.outcomes.Outcome.{Outcome}
@@ -19,15 +20,10 @@ abbrev pub commit_number : TxnId → Msg → List Number
 commit_number x (Commit who number) = if id_eq who.txn x then number ∷ [] else []
 commit_number x m = []
 
--- the number with which p says under Calvin that it finished the transaction
-abbrev pub finished_number : TxnId → ℕ → Msg → List Number
-finished_number x p (Finished id part number) = if id_eq id x && (part == p) then number ∷ [] else []
-finished_number x p m = []
-
 -- the numbers with which the transaction committed at p: those of its Commits that p handled, and under Calvin those that
 -- p told its home
 abbrev pub numbers_at : Setting → List Entry → TxnId → ℕ → List Number
-numbers_at s H x p = flat_map (commit_number x) (heard p H) ++ flat_map (finished_number x p) (heard (home s x) H)
+numbers_at s H x p = flat_map (commit_number x) (heard p H) ++ finished_numbers s H x p
 
 -- each decided transaction committed once at each of its participants, with the number of its line, and nowhere else; a
 -- given-up one committed nowhere

@@ -18,6 +18,7 @@ use Rattle.server_core.specs.CalvinProper.{Valid}
 use Rattle.server_core.specs.CalvinSerial.{RisingIds, read_at, reads_on, serial_step, serial_after, serial_lines}
 use Rattle.server_core.specs.Effects.{leaves, written, appended}
 use Rattle.server_core.specs.GlobalOrder.{order, number}
+use Rattle.server_core.specs.GlobalOutcome.{ordered_line}
 use Rattle.server_core.specs.IsSerial.{ran, Rises}
 use Rattle.server_core.specs.Lines.{decided_as}
 use Rattle.server_core.specs.Outcome.{rows_of}
@@ -70,6 +71,11 @@ module _ (s : Setting) where
   pub ids_back : (rows : Rows) (xs : List TxnId) → map (λ (l : Line). l.number.id) (serial_lines s rows xs) ≡ xs
   ids_back rows [] = refl
   ids_back rows (x ∷ xs) = ap (λ l. x ∷ l) (ids_back (serial_step s rows x) xs)
+
+  -- a line is what its transaction did at its turn, with its number
+  pub lines_back : (rows : Rows) (xs : List TxnId) → map (ordered_line s) (map ran (serial_lines s rows xs)) ≡ serial_lines s rows xs
+  lines_back rows [] = refl
+  lines_back rows (x ∷ xs) = ap (λ l. decided_as s x (number s x).n (reads_on s rows x) ∷ l) (lines_back (serial_step s rows x) xs)
 
   pub numbers_are : (rows : Rows) (xs : List TxnId) → map (λ (l : Line). l.number) (serial_lines s rows xs) ≡ map (number s) xs
   numbers_are rows [] = refl

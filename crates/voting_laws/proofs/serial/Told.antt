@@ -13,7 +13,8 @@ use Rattle.server_core.specs.Lines.{lines, sort_lines, giveups_of}
 use Rattle.server_core.specs.Proper.{Valid}
 use Rattle.server_core.specs.Runs.{heard}
 use Rattle.server_core.specs.Setting.{Setting, home, parts_of}
-use Rattle.server_core.specs.Told.{commit_number, finished_number, numbers_at}
+use Rattle.server_core.specs.CalvinAtomic.{finished_number}
+use Rattle.server_core.specs.Told.{commit_number, numbers_at}
 use Rattle.server_core.specs.VotingAtomic.{Committed, commits}
 use Rattle.server_core.specs.VotingFits.{AllFit}
 use Rattle.server_core.specs.declared.messages.Entry.{Entry}

@@ -5,7 +5,7 @@ use Rattle.server_core.specs.GlobalOrder.{order}
 use Rattle.server_core.specs.CalvinScheduler.{now}
 use Rattle.server_core.specs.Runs.{heard}
 use Rattle.server_core.specs.declared.outcomes.Decided.{Decided}
-use Rattle.calvin_laws.proofs.serial.FinishedOnce.{finished_at}
+use Rattle.calvin_laws.proofs.serial.FinishedOnce.{finished_once}
 use Rattle.server_core.proofs.lists.ListTests.{same_number}
 use Rattle.calvin_laws.proofs.serial.Outcomes.{numbers_are}
 use Rattle.calvin_laws.proofs.serial.Settled.{lines_serial, node_rows}
@@ -18,5 +18,5 @@ returns c = record {
   rows = λ s H key v run.
       let p = partition_of key s.parts in
       ap (λ b. cond b (now s p (heard p H) key) None) (same_number p) ∙ node_rows s v H run p key refl;
-  finished = λ s H x p v run i j. finished_at s x p v H run i j;
+  finished = λ s H x v run i. finished_once s v H run x i;
 }

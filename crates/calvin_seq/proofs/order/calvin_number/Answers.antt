@@ -23,8 +23,8 @@ home-seq-requires-clause-valid c =
 pub count_homes-index-requires-clause-limit : goal.count_homes-index-requires-clause-limit
 count_homes-index-requires-clause-limit c = let b = id_between c.args.work.now c.args.id c.requires.id in omega (arith, b.0, b.1, id_for_each c.args.work.now)
 
-pub number_at-requires : goal.number_at-requires
-number_at-requires c =
+pub ordered_number-requires : goal.ordered_number-requires
+ordered_number-requires c =
     let b = id_between c.args.work.now c.args.id c.requires.id in
     omega (arith, b.0, b.1, id_for_each c.args.work.now, few_programs c.args.work.now c.requires.valid)
 
@@ -38,4 +38,4 @@ returns c k same =
     let is : id_of (c.args.id.0 - 1) ≡ c.args.id = ap (λ (i : ℕ). record { 0 = i }) (omega (arith, b.0)) in
     let one = number_is w (c.args.id.0 - 1) (omega (arith, b.0, b.1, id_for_each w)) c.get.result.now c.get.ensures k c.args.parts same c.requires.parts q j c.home-seq.ensures.home (c.count_homes-index.ensures.counted k same) in
     let there : number_at s c.args.id q j ≡ number s c.args.id = subst (λ (x : TxnId). number_at s x q j ≡ number s x) is one in
-    ap (λ (n : ℕ). record { n = n; id = c.args.id }) (grind (arith, c.number_at.ensures, same)) ∙ there
+    ap (λ (n : ℕ). record { n = n; id = c.args.id }) (grind (arith, c.ordered_number.ensures, same)) ∙ there

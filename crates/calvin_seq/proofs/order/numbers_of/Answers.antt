@@ -29,10 +29,10 @@ loop-at-preserved c =
           let before = map (number s) (take c.loop-at.at (all_ids w)) in
           let place : c.from-in-loop-at.result ≡ q = omega arith in
           let index : j ≡ length (homes_until s q c.loop-at.at) = grind (arith, common_steps, place, c.index-index.ensures, c.loop-at.invariant.counted k same q below) in
-          let numbered : c.number_at.result ≡ numbered s.parts (j / 8) q (j % 8) = grind (arith, same, c.number_at.ensures) in
+          let numbered : c.ordered_number.result ≡ numbered s.parts (j / 8) q (j % 8) = grind (arith, same, c.ordered_number.ensures) in
           let one = number_is w c.loop-at.at less c.get.result.now c.get.ensures k c.args.parts same c.requires.parts q j c.home-seq.ensures.home index in
           c.in_ok-push.ensures.items
-          ∙ ap (λ (l : List Number). l ++ record { n = c.number_at.result; id = id_of c.loop-at.at } ∷ []) (c.loop-at.invariant.numbered k same)
+          ∙ ap (λ (l : List Number). l ++ record { n = c.ordered_number.result; id = id_of c.loop-at.at } ∷ []) (c.loop-at.invariant.numbered k same)
           ∙ ap (λ (n : ℕ). before ++ record { n = n; id = id_of c.loop-at.at } ∷ []) numbered
           ∙ ap (λ (n : Number). before ++ n ∷ []) one
           ∙ ap (λ (x : TxnId). before ++ number s x ∷ []) (sym (id_at w c.loop-at.at less))

@@ -14,8 +14,8 @@ use Rattle.server_core.specs.Told.{IsTold}
 use Rattle.server_core.specs.declared.messages.Entry.{Entry}
 use Rattle.server_core.specs.declared.outcomes.Outcome.{Outcome}
 use Rattle.run_outcomes.specs.Outcomes.{with_rows}
-use Rattle.calvin_laws.proofs.Configured.{outcome_is}
-use Rattle.replay.proofs.Outcomes.{outcome_rows, ordered_outcome}
+use Rattle.calvin_laws.proofs.Configured.{ordered_outcome}
+use Rattle.replay.proofs.Outcomes.{outcome_rows}
 use Rattle.replay.proofs.runs.run_in.Goals as goal
 
 pub returns : goal.returns
@@ -46,5 +46,5 @@ returns g c =
       told = subst (IsTold (setting config work) H) (sym same) (law.told config work H ranges valid quiet);
       atomic = law.atomic config work H ranges valid quiet;
       named = law.named config work H _ ranges valid quiet;
-      ordered = λ is_calvin. same ∙ outcome_is config work is_calvin ranges valid H quiet ∙ ordered_outcome config work is_calvin;
+      ordered = λ is_calvin. same ∙ ordered_outcome config work is_calvin ranges valid H quiet;
     }

@@ -20,7 +20,7 @@ returns-clause-stands c =
     let count : c.epochs.result * c.from.result ≡ epochs s * a.config.parts = ap₂ (λ (m n : ℕ). m * n) (c.epochs.ensures c.args.config refl ∙ ap epochs (sym same)) (c.from.ensures ∙ ap (λ (r : Role). r.config.parts) (sym role)) in
     record {
       ordered = ap (λ (r : Role). r.config.protocol) role ∙ c.requires.protocol;
-      sequencer = c.in_ok-begin.ensures ∙ sym role;
+      sequencer = c.in_ok-begin.ensures;
       fit = tt;
       numbers = c.in_ok-numbers_of.ensures c.args.config refl ∙ ap (λ (r : Role). map (number (setting r.config r.work)) (all_ids r.work)) (sym role);
       counts = c.in_ok-participant_counts.ensures c.args.config refl ∙ ap (λ (r : Role). map (λ x. length (parts_for (setting r.config r.work) x)) (all_ids r.work)) (sym role);
