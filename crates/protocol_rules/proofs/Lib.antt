@@ -10,6 +10,7 @@ pub mod AllWakes
 pub mod Locks
 pub mod NoWaits
 pub mod WaitDies
+pub mod Fronts
 pub mod Loops
 pub mod Queues
 pub mod Belows

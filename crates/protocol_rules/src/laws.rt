@@ -9,7 +9,7 @@ ghost use Rattle.protocol_rules.specs.Windows.{KeepsWindows};
 ghost use Rattle.protocol_rules.specs.Wakes.{WakesOnce};
 ghost use Rattle.protocol_rules.specs.Waits.{NothingWaits, WaitsForYounger, WaitsForWriter, WaitsLaw};
 ghost use Rattle.protocol_rules.specs.NoWait.{no_wait};
-ghost use Rattle.protocol_rules.specs.WaitDie.{wait_die, queue, Falls, StandsBehind, FirstIsHeldUp, WakesRight, WakesInTurn};
+ghost use Rattle.protocol_rules.specs.WaitDie.{wait_die, queue, Falls, StandsBehind, FirstIsHeldUp, WakesRight, WakesInTurn, WakesFromFront};
 ghost use Rattle.protocol_rules.specs.Waiting.{holders, holds, older_writer};
 ghost use Rattle.protocol_rules.specs.Trying.{tries};
 ghost use Rattle.protocol_rules.specs.Timestamp.{timestamp};
@@ -35,7 +35,8 @@ pub fn no_wait_laws()
 /// WAIT_DIE keeps the window law. Each waiter conflicts with an owner of greater stamp or stands behind a waiter of
 /// greater stamp; the first of a key conflicts with an owner of greater stamp; one that conflicts with no owner stands
 /// behind a conflicting waiter of greater stamp; the waiters of a key stand in strictly falling stamp order. Each access
-/// that was told to wait is woken once or waits still; each wake is granted as the rule says, in its turn.
+/// that was told to wait is woken once or waits still; each wake is granted as the rule says, in its turn. The wakes of a
+/// key are those taken from the front of its queue while compatible with the owners and with those taken before.
 pub fn wait_die_laws()
     ensures windows { (loaded : Rows) (h : History) → Obeys loaded (wait_die loaded) h → KeepsWindows loaded h }
     ensures waits { (loaded : Rows) (h : History) → Obeys loaded (wait_die loaded) h → WaitsForYounger h }
@@ -45,6 +46,7 @@ pub fn wait_die_laws()
     ensures wakes { (loaded : Rows) (h : History) → Obeys loaded (wait_die loaded) h → WakesOnce h }
     ensures right { (loaded : Rows) (h : History) (c : Call) → Obeys loaded (wait_die loaded) (c ∷ h) → WakesRight loaded h c }
     ensures turns { (loaded : Rows) (h : History) (c : Call) → Obeys loaded (wait_die loaded) (c ∷ h) → WakesInTurn loaded h c }
+    ensures front { (loaded : Rows) (h : History) (c : Call) → Obeys loaded (wait_die loaded) (c ∷ h) → WakesFromFront loaded h c }
 {}
 
 /// TIMESTAMP keeps the window law. Each waiter reads and has a granted, unended writer of smaller stamp on its key. Whom
