@@ -1,9 +1,7 @@
 -- WAIT_DIE: the wakes of a key are those that are taken from the front of its queue.
-use Rattle.std.proofs.Common.{◌≡◌, ◌≢◌, ◌⊎◌, ℕ, ◌<◌, ◌≤◌, List, [], ◌∷◌, map, filter, Bool, true, false, cond, not, leb, ◌&&◌, refl, sym, ap, ◌∙◌, subst, inl, inr, ⊎_elim, arith, true≢false}
+use Rattle.std.proofs.Common.{◌≡◌, ◌≢◌, ◌⊎◌, ◌<◌, ◌≤◌, List, [], ◌∷◌, map, filter, Bool, true, false, cond, not, leb, ◌&&◌, refl, sym, ap, ◌∙◌, subst, inl, inr, ⊎_elim, arith, true≢false}
 use Rattle.std.specs.List.{list_any}
 use Rattle.deneva_base.specs.declared.keys.Key.{Key}
-use Rattle.deneva_base.specs.declared.numbers.Attempt.{Attempt}
-use Rattle.deneva_base.specs.declared.answers.Wake.{Wake}
 use Rattle.deneva_base.specs.Lists.{IsIn, sort}
 use Rattle.deneva_base.specs.Rows.{Rows}
 use Rattle.deneva_base.specs.Keys.{key_eq}

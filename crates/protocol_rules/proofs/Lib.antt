@@ -33,3 +33,5 @@ pub mod StampsServed
 pub mod MaatServed
 pub mod Served
 pub mod Voting
+pub mod Leasts
+pub mod Causes
