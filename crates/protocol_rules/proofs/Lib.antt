@@ -35,3 +35,4 @@ pub mod Served
 pub mod Voting
 pub mod Leasts
 pub mod Causes
+pub mod Limits

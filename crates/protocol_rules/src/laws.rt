@@ -1,5 +1,5 @@
 //! Laws of the rules, each of every history whose calls met their conditions and were answered by the rule.
-ghost use Rattle.std.specs.Prelude.{◌≡◌, ◌⊎◌, ◌+◌, ℕ, ◌∷◌, [], false, true, Some};
+ghost use Rattle.std.specs.Prelude.{◌≡◌, ◌⊎◌, ◌+◌, ◌<◌, ◌≤◌, List, ℕ, ◌∷◌, [], false, true, Some};
 ghost use Rattle.std.specs.List.{list_any};
 ghost use Rattle.deneva_base.specs.Lists.{IsIn};
 ghost use Rattle.deneva_base.specs.Rows.{Rows};
@@ -22,6 +22,9 @@ ghost use Rattle.protocol_rules.specs.Served.{Served};
 ghost use Rattle.protocol_rules.specs.Protocols.{Chosen, IsVoting, chosen};
 ghost use Rattle.deneva_base.specs.declared.config.Protocol.{Protocol};
 ghost use Rattle.deneva_base.specs.declared.config.Protocol.TheVariants.{Calvin};
+ghost use Rattle.deneva_base.specs.declared.answers.Vote.TheVariants.{Yes};
+ghost use Rattle.deneva_base.specs.declared.causes.Bound.{Bound};
+ghost use Rattle.deneva_base.specs.declared.rows.Keyed.{Keyed};
 ghost use Rattle.deneva_base.specs.declared.keys.Key.{Key};
 ghost use Rattle.deneva_base.specs.declared.numbers.Attempt.{Attempt};
 ghost use Rattle.deneva_base.specs.declared.numbers.Number.{Number};
@@ -74,10 +77,12 @@ pub fn mvcc_laws()
     ensures abort_keys { (keep : ℕ) (loaded : Rows) (h : History) (who : Attempt) (a : Asked) → Obeys loaded (mvcc keep loaded) h → IsIn a (waits h) → holds h who a.key ≡ false → list_any (writer_between loaded (Abort who [] ∷ h) a) (holders (Abort who [] ∷ h)) ≡ true }
 {}
 
-/// MAAT, whatever length its windows have, keeps the window law, and nothing waits.
+/// MAAT, whatever length its windows have, keeps the window law, and nothing waits. The window of a vote Yes has at least
+/// one number and at most the span, where that is not 0.
 pub fn maat_laws()
     ensures windows { (span : ℕ) (loaded : Rows) (h : History) → Obeys loaded (maat span loaded) h → KeepsWindows loaded h }
     ensures waits { (span : ℕ) (loaded : Rows) (h : History) → Obeys loaded (maat span loaded) h → NothingWaits h }
+    ensures window { (span : ℕ) (loaded : Rows) (h : History) (who : Attempt) (bound : Bound) (writes appends : List Keyed) (lo hi : ℕ) → 1 ≤ span → (maat span loaded).vote h who bound writes appends ≡ Yes lo hi → (lo ≤ hi) × (hi < lo + span) }
 {}
 
 /// Each rule meets all that the laws of runs ask of one: its windows, wakes and granted rows, the causes that it names,
