@@ -36,3 +36,4 @@ pub mod Voting
 pub mod Leasts
 pub mod Causes
 pub mod Limits
+pub mod Greatest

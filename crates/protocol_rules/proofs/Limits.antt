@@ -1,5 +1,5 @@
 -- Windows of MAAT that are short enough never reach the last number, so an empty one is limited by an attempt.
-use Rattle.std.proofs.Common.{◌≡◌, ℕ, ◌+◌, ◌-◌, ◌*◌, ◌^◌, ◌<◌, ◌≤◌, min, List, [], ◌∷◌, length, refl, sym, ap, subst, ⊎_elim, arith}
+use Rattle.std.proofs.Common.{◌≡◌, ℕ, ◌+◌, ◌*◌, ◌^◌, ◌<◌, ◌≤◌, List, [], ◌∷◌, length, sym, subst, ⊎_elim, arith}
 use Rattle.deneva_base.specs.declared.keys.Key.{Key}
 use Rattle.deneva_base.specs.declared.numbers.Attempt.{Attempt}
 use Rattle.deneva_base.specs.declared.causes.Cause.{Cause}
@@ -10,7 +10,7 @@ use Rattle.deneva_base.specs.declared.answers.Vote.TheVariants.{Yes, No}
 use Rattle.deneva_base.specs.declared.rows.Keyed.{Keyed}
 use Rattle.deneva_base.specs.Keys.{attempt_lt}
 use Rattle.deneva_base.specs.Rows.{Rows}
-use Rattle.protocol_rules.specs.History.{Call, Ask, Prepare, Commit, Abort, History}
+use Rattle.protocol_rules.specs.History.{Ask, Prepare, Commit, Abort, History}
 use Rattle.protocol_rules.specs.Conditions.{MayPrepare}
 use Rattle.protocol_rules.specs.Growth.{CauseUnder, VoteUnder, HistoryUnder}
 use Rattle.protocol_rules.specs.Least.{IsLeast}

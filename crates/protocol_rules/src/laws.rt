@@ -12,7 +12,9 @@ ghost use Rattle.protocol_rules.specs.NoWait.{no_wait};
 ghost use Rattle.protocol_rules.specs.WaitDie.{wait_die, queue, Falls, StandsBehind, FirstIsHeldUp, WakesRight, WakesInTurn, WakesFromFront};
 ghost use Rattle.protocol_rules.specs.Waiting.{holders, holds, older_writer};
 ghost use Rattle.protocol_rules.specs.Trying.{tries};
-ghost use Rattle.protocol_rules.specs.Timestamp.{timestamp};
+ghost use Rattle.protocol_rules.specs.Latest.{Version, latest};
+ghost use Rattle.protocol_rules.specs.Versions.{written, start, greatest, below};
+ghost use Rattle.protocol_rules.specs.Timestamp.{timestamp, top_written};
 ghost use Rattle.protocol_rules.specs.Mvcc.{mvcc, writer_between};
 ghost use Rattle.protocol_rules.specs.Maat.{maat};
 ghost use Rattle.protocol_rules.specs.Lawful.{Lawful};
@@ -101,4 +103,12 @@ pub fn protocols_are_served()
     ensures votes { (p : Protocol) → IsVoting p ⊎ (p ≡ Calvin) }
     ensures chooses { (p : Protocol) → IsVoting p → (o : Chosen) × (chosen p ≡ Some o) }
     ensures served { (p : Protocol) (o : Chosen) → chosen p ≡ Some o → Served o.rule }
+{}
+
+/// The latest version of a key is the greatest of its committed writes and the loaded row, its n the greatest that was
+/// written, and it is the version below each stamp that is above them all.
+pub fn committed_writes_agree()
+    ensures latest { (loaded : Rows) (h : History) (key : Key) → latest loaded h key ≡ greatest (start loaded key) (written h key) }
+    ensures top { (loaded : Rows) (h : History) (key : Key) → (latest loaded h key).number.n ≡ top_written h key }
+    ensures below { (loaded : Rows) (h : History) (key : Key) (stamp : ℕ) → ((v : Version) → IsIn v (written h key) → v.number.n < stamp) → below loaded h key stamp ≡ latest loaded h key }
 {}

@@ -6,8 +6,8 @@ mod laws;
 mod named;
 
 pub use laws::{
-    maat_laws, mvcc_laws, no_wait_laws, protocols_are_served, rules_serve, timestamp_laws,
-    wait_die_laws,
+    committed_writes_agree, maat_laws, mvcc_laws, no_wait_laws, protocols_are_served, rules_serve,
+    timestamp_laws, wait_die_laws,
 };
 pub use named::{
     maat_names_its_ends, mvcc_names_the_greatest, no_wait_names_the_least,

@@ -4,9 +4,9 @@ use Rattle.protocol_rules.specs.Maat.{maat}
 use Rattle.protocol_rules.proofs.Maats.{ranging}
 use Rattle.protocol_rules.proofs.Rangeds.{windows_law}
 use Rattle.shelf.proofs.Versions.{rows_are}
-use Rattle.range_control.proofs.ranges.RangesControl.rows.Goals as goal
+use Rattle.range_control.proofs.ranges.Ranges4096Control.rows.Goals as goal
 
 pub returns-clause-rows : goal.returns-clause-rows
-returns-clause-rows g c =
+returns-clause-rows c =
     IfOk-weaker c.rows_in_order.result _ _
-    (λ rows e loaded h stands key. e key ∙ rows_are (maat g.row.SPAN loaded) stands.tracks.kept stands.obeys (λ k o. windows_law loaded (maat g.row.SPAN loaded) (ranging g.row.SPAN loaded) k o) key) c.rows_in_order.ensures.rows
+    (λ rows e loaded h stands key. e key ∙ rows_are (maat 4096 loaded) stands.tracks.kept stands.obeys (λ k o. windows_law loaded (maat 4096 loaded) (ranging 4096 loaded) k o) key) c.rows_in_order.ensures.rows
