@@ -17,11 +17,7 @@ use Rattle.protocol_rules.specs.Windows.{KeepsWindows}
 use Rattle.deneva_base.proofs.Membership.{key_tells, attempt_tells}
 use Rattle.protocol_rules.proofs.Sound.{sound}
 use Rattle.control_core.specs.Leaving.{last}
-use Rattle.protocol_rules.specs.Leaving.{left_in, later, greatest_at, row_or, rows_left}
-
-abbrev pub appends_in : List Yea → Attempt → List Keyed
-appends_in [] who = []
-appends_in (y ∷ ys) who = cond (attempt_eq y.who who) y.appends (appends_in ys who)
+use Rattle.protocol_rules.specs.Leaving.{left_in, appends_in, later, greatest_at, row_or, rows_left}
 
 pub left_is : (ys : List Yea) (who : Attempt) → left_in ys who ≡ writes_in ys who ++ appends_in ys who
 left_is [] who = refl

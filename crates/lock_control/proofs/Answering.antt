@@ -7,13 +7,13 @@ use Rattle.deneva_base.specs.Rows.{Rows}
 use Rattle.deneva_base.specs.Keys.{key_eq, attempt_eq, attempt_lt}
 use Rattle.deneva_base.specs.Modes.{writes}
 use Rattle.protocol_rules.specs.History.{History, Asked, Grant, grants, IsUnended, Conflict}
-use Rattle.protocol_rules.specs.Locks.{least}
+use Rattle.protocol_rules.specs.Locks.{least, of_lesser}
 use Rattle.deneva_base.proofs.Membership.{key_decides, attempt_decides, and_true, and_parts}
 use Rattle.protocol_rules.proofs.Sound.{Sound}
 use Rattle.protocol_rules.proofs.Known.{Known}
 use Rattle.protocol_rules.proofs.Traced.{Traced}
 use Rattle.protocol_rules.proofs.Locks.{conflict_decides}
-use Rattle.protocol_rules.proofs.Queues.{least_in, least_below}
+use Rattle.protocol_rules.proofs.Leasts.{owners_ordered, least_in, least_under}
 use Rattle.row_store.specs.Stores.{Seen, row_in}
 use Rattle.control_core.specs.Leaving.{IsLoadedStore}
 use Rattle.lock_control.specs.declared.requests.Request.{Request}
@@ -143,11 +143,11 @@ module _ (loaded : Rows) (h : History) (known : Known loaded h) (sound : Sound l
         split : (xs : List Grant) → gs ≡ xs → (g : Grant) × (rest : List Grant) × (gs ≡ g ∷ rest) × (x ≡ owner_of (least g rest))
         split [] is = absurd (subst (λ l'. IsIn o.0 l') is (gs_in o.0 o.1 o.2 o.3 o.4))
         split (g ∷ rest) is =
-            let i = least_in g rest in
+            let i = least_in of_lesser g rest in
             let of = in_gs (least g rest) (subst (λ l'. IsIn (least g rest) l') (sym is) i) in
             let b = bar_of a asked below (least g rest) w m of.0 of.1 of.2 of.3 in
             let one = l.none_less (owner_of (least g rest)) b.0 b.1 in
-            let two = least_below g rest o.0 (subst (λ l'. IsIn o.0 l') is (gs_in o.0 o.1 o.2 o.3 o.4)) in
+            let two = least_under of_lesser owners_ordered g rest o.0 (subst (λ l'. IsIn o.0 l') is (gs_in o.0 o.1 o.2 o.3 o.4)) in
             let who : (least g rest).who ≡ o.0.who = one_attempt (least g rest).who o.0.who (ap (λ (z : Request). attempt_lt (least g rest).who z.who) (sym o.5) ∙ one) two in
             (g, rest, is, o.5 ∙ ap owner_of (sym (traced.one (least g rest) o.0 of.0 o.1 who (of.2.0 ∙ sym o.3.0))))
 

@@ -17,20 +17,20 @@ use Rattle.protocol_rules.specs.History.{Ask, Prepare, Commit, Abort, History, D
 use Rattle.protocol_rules.specs.Windows.{IsVersion}
 use Rattle.protocol_rules.specs.Conditions.{MayPrepare}
 use Rattle.protocol_rules.specs.Rules.{Rule, Obeys}
-use Rattle.protocol_rules.specs.Latest.{Version, row_for, writes_in}
+use Rattle.protocol_rules.specs.Latest.{Version, row_for, writes_in, greater}
 use Rattle.deneva_base.proofs.Membership.{in_left, in_right, in_cases, in_filter, filter_in}
 use Rattle.protocol_rules.proofs.Sound.{Sound, sound, row_found, row_some, writes_found, writes_are}
-use Rattle.protocol_rules.specs.Versions.{version_of, written, start, later, greatest, below}
+use Rattle.protocol_rules.specs.Versions.{version_of, written, start, greatest, below}
 
-later_cases : (v w : Version) → (later v w ≡ v) ⊎ (later v w ≡ w)
-later_cases v w = go (number_lt v.number w.number)
+greater_cases : (v w : Version) → (greater v w ≡ v) ⊎ (greater v w ≡ w)
+greater_cases v w = go (number_lt v.number w.number)
   where
     go : (b : Bool) → (cond b w v ≡ v) ⊎ (cond b w v ≡ w)
     go true = inr refl
     go false = inl refl
 
-later_both : (v w : Version) → (number_lt (later v w).number v.number ≡ false) × (number_lt (later v w).number w.number ≡ false)
-later_both v w = go (number_lt v.number w.number) refl
+greater_both : (v w : Version) → (number_lt (greater v w).number v.number ≡ false) × (number_lt (greater v w).number w.number ≡ false)
+greater_both v w = go (number_lt v.number w.number) refl
   where
     go : (b : Bool) → number_lt v.number w.number ≡ b → (number_lt (cond b w v).number v.number ≡ false) × (number_lt (cond b w v).number w.number ≡ false)
     go true e = (grind (arith, nat_tests), grind (arith, nat_tests))
@@ -48,17 +48,17 @@ greatest_in v (w ∷ ws) =
     ⊎_elim
     (λ e. ⊎_elim (λ f. inl (e ∙ f)) (λ i. inr (inr (subst (λ z. IsIn z ws) (sym e) i))) (greatest_in v ws))
     (λ e. inr (inl e))
-    (later_cases (greatest v ws) w)
+    (greater_cases (greatest v ws) w)
 
 pub greatest_over : (v : Version) (ws : List Version) (x : Version) → (x ≡ v) ⊎ IsIn x ws → number_lt (greatest v ws).number x.number ≡ false
 greatest_over v [] x i = ⊎_elim (λ e. subst (λ z. number_lt v.number z.number ≡ false) (sym e) (grind (arith, nat_tests))) (λ t. absurd t) i
 greatest_over v (w ∷ ws) x i =
-    let b = later_both (greatest v ws) w in
+    let b = greater_both (greatest v ws) w in
     ⊎_elim
-    (λ e. not_less (later (greatest v ws) w).number (greatest v ws).number x.number b.0 (greatest_over v ws x (inl e)))
+    (λ e. not_less (greater (greatest v ws) w).number (greatest v ws).number x.number b.0 (greatest_over v ws x (inl e)))
     (λ t. ⊎_elim
-    (λ e. subst (λ z. number_lt (later (greatest v ws) w).number z.number ≡ false) (sym e) b.1)
-    (λ r. not_less (later (greatest v ws) w).number (greatest v ws).number x.number b.0 (greatest_over v ws x (inr r)))
+    (λ e. subst (λ z. number_lt (greater (greatest v ws) w).number z.number ≡ false) (sym e) b.1)
+    (λ r. not_less (greater (greatest v ws) w).number (greatest v ws).number x.number b.0 (greatest_over v ws x (inr r)))
     t)
     i
 

@@ -10,6 +10,7 @@ pub mod AllWakes
 pub mod Locks
 pub mod NoWaits
 pub mod WaitDies
+pub mod Fronts
 pub mod Loops
 pub mod Queues
 pub mod Belows
@@ -32,3 +33,7 @@ pub mod StampsServed
 pub mod MaatServed
 pub mod Served
 pub mod Voting
+pub mod Leasts
+pub mod Causes
+pub mod Limits
+pub mod Greatest

@@ -22,9 +22,13 @@ pub record Version : Type 0 where
   pub number : Number
   pub row : Row
 
+-- the version of the greater number, and the first where the numbers are equal
+abbrev pub greater : Version → Version → Version
+greater v w = cond (number_lt v.number w.number) w v
+
 abbrev pub newer : Version → Number → Option Row → Version
 newer old number None = old
-newer old number (Some row) = cond (number_lt old.number number) (record { number = number; row = row }) old
+newer old number (Some row) = greater old (record { number = number; row = row })
 
 -- the greatest committed write of the key, or the loaded row
 abbrev pub latest : Rows → History → Key → Version

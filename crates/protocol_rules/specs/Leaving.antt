@@ -24,6 +24,11 @@ abbrev pub left_in : List Yea → Attempt → List Keyed
 left_in [] who = []
 left_in (y ∷ ys) who = cond (attempt_eq y.who who) (y.writes ++ y.appends) (left_in ys who)
 
+-- its appends alone
+abbrev pub appends_in : List Yea → Attempt → List Keyed
+appends_in [] who = []
+appends_in (y ∷ ys) who = cond (attempt_eq y.who who) y.appends (appends_in ys who)
+
 -- the row of the greatest number that one of these committed attempts leaves for the key
 abbrev pub greatest_at : Key → List Yea → List Decided → Option Version
 greatest_at key ys [] = None

@@ -6,6 +6,7 @@ pub mod Wakes
 pub mod Waits
 pub mod Latest
 pub mod Order
+pub mod Least
 pub mod Locks
 pub mod NoWait
 pub mod WaitDie
@@ -22,3 +23,4 @@ pub mod Naming
 pub mod Served
 pub mod Protocols
 pub mod Leaving
+pub mod Causes

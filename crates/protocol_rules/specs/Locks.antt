@@ -10,6 +10,7 @@ use Rattle.deneva_base.specs.declared.answers.Vote.{Vote}
 use Rattle.deneva_base.specs.declared.answers.Vote.TheVariants.{Yes}
 use Rattle.protocol_rules.specs.History.{History, Asked, Grant, Decided, grants, decided}
 use Rattle.protocol_rules.specs.Latest.{has_ended}
+use Rattle.protocol_rules.specs.Least.{least_of}
 
 abbrev pub conflicts : Attempt → Key → Mode → Attempt → Key → Mode → Bool
 conflicts who key mode by k m = key_eq key k && (not (attempt_eq who by) && (writes mode || writes m))
@@ -25,10 +26,13 @@ owners h = filter (λ g. not (has_ended h g.who)) (grants h)
 abbrev pub blockers : History → Asked → List Grant
 blockers h a = filter (λ g. conflicts g.who g.key g.mode a.who a.key a.mode) (owners h)
 
+-- it is of a lesser attempt
+abbrev pub of_lesser : Grant → Grant → Bool
+of_lesser x g = attempt_lt x.who g.who
+
 -- that of the least attempt
 abbrev pub least : Grant → List Grant → Grant
-least g [] = g
-least g (x ∷ xs) = least (cond (attempt_lt x.who g.who) x g) xs
+least g gs = least_of of_lesser g gs
 
 -- the committed attempt had an access that conflicted with one of the attempt's
 abbrev pub met : History → Attempt → Decided → Bool

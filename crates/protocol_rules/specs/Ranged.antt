@@ -17,6 +17,7 @@ use Rattle.deneva_base.specs.declared.causes.Bound.{Bound}
 use Rattle.deneva_base.specs.declared.rows.Keyed.{Keyed}
 use Rattle.protocol_rules.specs.History.{History, Grant, Yea, Decided, grants, yeas, decided}
 use Rattle.protocol_rules.specs.Latest.{latest, has_ended, seen}
+use Rattle.protocol_rules.specs.Least.{least_of}
 use Rattle.deneva_base.specs.Lists.{greatest_by, least_by}
 
 -- a row is listed for the key
@@ -60,45 +61,44 @@ low_of h who ws g = cond (attempt_eq g.who who) (max (cond (reads g.mode) (suc g
 abbrev pub low : History → Attempt → Bound → List Keyed → ℕ
 low h who bound ws = max 1 (max bound.n (greatest_by (low_of h who ws) (grants h)))
 
--- one below the lower end of a prepared attempt that writes a key read, where its upper end is above the version
-abbrev pub under_prepared : History → Attempt → Grant → Yea → ℕ
-under_prepared h who g y =
-    cond (attempt_eq g.who who && (reads g.mode && (not (attempt_eq y.who who) && (not (has_ended h y.who) && (lists y.writes g.key && ltb g.version.n y.hi))))) (y.lo - 1) (2 ^ 63)
+-- a prepared attempt limits the access of this one: it is to write the key read, with a window that ends above the version
+abbrev pub limits_prepared : History → Attempt → Grant → Yea → Bool
+limits_prepared h who g y = attempt_eq g.who who && (reads g.mode && (not (attempt_eq y.who who) && (not (has_ended h y.who) && (lists y.writes g.key && ltb g.version.n y.hi))))
 
--- one below the number of a committed attempt that wrote it above the version
+-- to one below its lower end
+abbrev pub under_prepared : History → Attempt → Grant → Yea → ℕ
+under_prepared h who g y = cond (limits_prepared h who g y) (y.lo - 1) (2 ^ 63)
+
+-- a committed attempt limits it: it wrote the key read above the version
+abbrev pub limits_committed : History → Attempt → Grant → Decided → Bool
+limits_committed h who g d = attempt_eq g.who who && (reads g.mode && (wrote h d.who g.key && number_lt g.version d.number))
+
+-- to one below its number
 abbrev pub under_committed : History → Attempt → Grant → Decided → ℕ
-under_committed h who g d =
-    cond (attempt_eq g.who who && (reads g.mode && (wrote h d.who g.key && number_lt g.version d.number))) (d.number.n - 1) (2 ^ 63)
+under_committed h who g d = cond (limits_committed h who g d) (d.number.n - 1) (2 ^ 63)
 
 abbrev pub high : History → Attempt → ℕ
 high h who = min (least_by (λ g. least_by (under_prepared h who g) (yeas h)) (grants h)) (least_by (λ g. least_by (under_committed h who g) (decided h)) (grants h))
 
--- the least key of the list
-abbrev pub least_key : Key → List Key → Key
-least_key k [] = k
-least_key k (q ∷ qs) = least_key (cond (key_lt q k) q k) qs
-
-abbrev pub least_attempt : Attempt → List Attempt → Attempt
-least_attempt x [] = x
-least_attempt x (y ∷ ys) = least_attempt (cond (attempt_lt y x) y x) ys
-
-abbrev pub first_key : Key → List Key → Key
-first_key k [] = k
-first_key k (q ∷ qs) = least_key q qs
-
-abbrev pub first_attempt : Attempt → List Attempt → Attempt
-first_attempt x [] = x
-first_attempt x (y ∷ ys) = least_attempt y ys
+-- the least of a list, and the first argument where it is empty
+abbrev pub least_or : {A : Type 0} → (A → A → Bool) → A → List A → A
+least_or below x [] = x
+least_or below x (y ∷ ys) = least_of below y ys
 
 -- the bound's key where it gives the lower end, else the least key that gives it by the measure
 abbrev pub lo_key : History → Bound → (Grant → ℕ) → ℕ → Key
-lo_key h bound f lo = cond (eqb bound.n lo) bound.key (first_key bound.key (map (λ g. g.key) (filter (λ g. eqb (f g) lo) (grants h))))
+lo_key h bound f lo = cond (eqb bound.n lo) bound.key (least_or key_lt bound.key (map (λ g. g.key) (filter (λ g. eqb (f g) lo) (grants h))))
 
--- the least attempt that gives the upper end
+-- those that limit the attempt to this upper end
+abbrev pub gives_prepared : History → Attempt → ℕ → Yea → Bool
+gives_prepared h who hi y = list_any (λ g. limits_prepared h who g y && eqb (y.lo - 1) hi) (grants h)
+
+abbrev pub gives_committed : History → Attempt → ℕ → Decided → Bool
+gives_committed h who hi d = list_any (λ g. limits_committed h who g d && eqb (d.number.n - 1) hi) (grants h)
+
+-- the least of them, and the attempt itself where there is none
 abbrev pub hi_by : History → Attempt → ℕ → Attempt
-hi_by h who hi =
-    first_attempt who
-    (map (λ y. y.who) (filter (λ y. list_any (λ g. eqb (under_prepared h who g y) hi) (grants h)) (yeas h)) ++ map (λ d. d.who) (filter (λ d. list_any (λ g. eqb (under_committed h who g d) hi) (grants h)) (decided h)))
+hi_by h who hi = least_or attempt_lt who (map (λ y. y.who) (filter (gives_prepared h who hi) (yeas h)) ++ map (λ d. d.who) (filter (gives_committed h who hi) (decided h)))
 
 -- No where the window is empty, else at most span numbers of it
 abbrev pub window_vote : ℕ → Key → Attempt → ℕ → ℕ → Vote

@@ -1,11 +1,11 @@
 -- The committed writes of a key, and the greatest of them below a stamp.
-use Rattle.std.specs.Prelude.{ℕ, List, [], ◌∷◌, ◌++◌, filter, ltb, cond, Option, Some, None}
+use Rattle.std.specs.Prelude.{ℕ, List, [], ◌∷◌, ◌++◌, filter, ltb, Option, Some, None}
 use Rattle.deneva_base.specs.declared.keys.Key.{Key}
 use Rattle.deneva_base.specs.declared.numbers.Number.{Number}
 use Rattle.deneva_base.specs.Rows.{Row, Rows, row_or_empty}
-use Rattle.deneva_base.specs.Keys.{loaded_version, number_lt}
+use Rattle.deneva_base.specs.Keys.{loaded_version}
 use Rattle.protocol_rules.specs.History.{Ask, Prepare, Commit, Abort, History, yeas}
-use Rattle.protocol_rules.specs.Latest.{row_for, writes_in, Version}
+use Rattle.protocol_rules.specs.Latest.{row_for, writes_in, Version, greater}
 
 abbrev pub version_of : Number → Option Row → List Version
 version_of number None = []
@@ -23,13 +23,10 @@ written (Abort who woken ∷ h) key = written h key
 abbrev pub start : Rows → Key → Version
 start loaded key = record { number = loaded_version; row = row_or_empty (loaded key) }
 
-abbrev pub later : Version → Version → Version
-later v w = cond (number_lt v.number w.number) w v
-
 -- the one of the greatest number
 abbrev pub greatest : Version → List Version → Version
 greatest v [] = v
-greatest v (w ∷ ws) = later (greatest v ws) w
+greatest v (w ∷ ws) = greater (greatest v ws) w
 
 -- the committed write of the greatest number below the stamp, or the loaded row
 abbrev pub below : Rows → History → Key → ℕ → Version

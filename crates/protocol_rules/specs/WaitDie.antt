@@ -1,5 +1,6 @@
 -- The rule of WAIT_DIE.
 use Rattle.std.specs.Prelude.{◌≡◌, ⊤, ◌<◌, List, [], ◌∷◌, map, filter, ◌&&◌, not, Bool, true, false, cond, ltb, leb}
+use Rattle.std.specs.List.{list_any}
 use Rattle.deneva_base.specs.declared.keys.Key.{Key}
 use Rattle.deneva_base.specs.declared.numbers.Attempt.{Attempt}
 use Rattle.deneva_base.specs.Lists.{IsIn}
@@ -15,6 +16,7 @@ use Rattle.protocol_rules.specs.Latest.{Version, latest, seen}
 use Rattle.protocol_rules.specs.Order.{Sorted, by_falling_stamp}
 use Rattle.deneva_base.specs.Lists.{sort}
 use Rattle.protocol_rules.specs.Locks.{conflicts, blockers, least, lock_vote}
+use Rattle.protocol_rules.specs.Waiting.{holders}
 
 -- the conflicting owners of smaller stamp
 abbrev pub elders : History → Asked → List Grant
@@ -103,6 +105,21 @@ WakesInTurn loaded h (Ask who stamp key mode answer) = ⊤
 WakesInTurn loaded h (Prepare who bound writes appends vote) = ⊤
 WakesInTurn loaded h (Commit who number woken) = InTurn loaded (Commit who number [] ∷ h) woken
 WakesInTurn loaded h (Abort who woken) = InTurn loaded (Abort who [] ∷ h) woken
+
+-- from the front of a queue, each while it is compatible with those that hold and with those taken before it
+abbrev pub taken : List Asked → List Asked → List Asked
+taken held [] = []
+taken held (a ∷ as') = cond (list_any (λ b. conflicts b.who b.key b.mode a.who a.key a.mode) held) [] (a ∷ taken (a ∷ held) as')
+
+-- the wakes of a key are those that are taken from the front of its queue, on the owners that are left
+abbrev pub FromFront : Rows → History → List Wake → Type 0
+FromFront loaded h' woken = (key : Key) → filter (λ w. key_eq w.key key) woken ≡ map (wake_of loaded h') (taken (holders h') (queue h' key))
+
+abbrev pub WakesFromFront : Rows → History → Call → Type 0
+WakesFromFront loaded h (Ask who stamp key mode answer) = ⊤
+WakesFromFront loaded h (Prepare who bound writes appends vote) = ⊤
+WakesFromFront loaded h (Commit who number woken) = FromFront loaded (Commit who number [] ∷ h) woken
+WakesFromFront loaded h (Abort who woken) = FromFront loaded (Abort who [] ∷ h) woken
 
 -- the first waiter of each key conflicts with an owner of greater stamp
 abbrev pub FirstIsHeldUp : History → Type 0

@@ -1,5 +1,5 @@
 //! Laws of the rules, each of every history whose calls met their conditions and were answered by the rule.
-ghost use Rattle.std.specs.Prelude.{◌≡◌, ◌⊎◌, ◌+◌, ℕ, ◌∷◌, [], false, true, Some};
+ghost use Rattle.std.specs.Prelude.{◌≡◌, ◌⊎◌, ◌+◌, ◌<◌, ◌≤◌, List, ℕ, ◌∷◌, [], false, true, Some};
 ghost use Rattle.std.specs.List.{list_any};
 ghost use Rattle.deneva_base.specs.Lists.{IsIn};
 ghost use Rattle.deneva_base.specs.Rows.{Rows};
@@ -9,10 +9,12 @@ ghost use Rattle.protocol_rules.specs.Windows.{KeepsWindows};
 ghost use Rattle.protocol_rules.specs.Wakes.{WakesOnce};
 ghost use Rattle.protocol_rules.specs.Waits.{NothingWaits, WaitsForYounger, WaitsForWriter, WaitsLaw};
 ghost use Rattle.protocol_rules.specs.NoWait.{no_wait};
-ghost use Rattle.protocol_rules.specs.WaitDie.{wait_die, queue, Falls, StandsBehind, FirstIsHeldUp, WakesRight, WakesInTurn};
+ghost use Rattle.protocol_rules.specs.WaitDie.{wait_die, queue, Falls, StandsBehind, FirstIsHeldUp, WakesRight, WakesInTurn, WakesFromFront};
 ghost use Rattle.protocol_rules.specs.Waiting.{holders, holds, older_writer};
 ghost use Rattle.protocol_rules.specs.Trying.{tries};
-ghost use Rattle.protocol_rules.specs.Timestamp.{timestamp};
+ghost use Rattle.protocol_rules.specs.Latest.{Version, latest};
+ghost use Rattle.protocol_rules.specs.Versions.{written, start, greatest, below};
+ghost use Rattle.protocol_rules.specs.Timestamp.{timestamp, top_written};
 ghost use Rattle.protocol_rules.specs.Mvcc.{mvcc, writer_between};
 ghost use Rattle.protocol_rules.specs.Maat.{maat};
 ghost use Rattle.protocol_rules.specs.Lawful.{Lawful};
@@ -22,6 +24,9 @@ ghost use Rattle.protocol_rules.specs.Served.{Served};
 ghost use Rattle.protocol_rules.specs.Protocols.{Chosen, IsVoting, chosen};
 ghost use Rattle.deneva_base.specs.declared.config.Protocol.{Protocol};
 ghost use Rattle.deneva_base.specs.declared.config.Protocol.TheVariants.{Calvin};
+ghost use Rattle.deneva_base.specs.declared.answers.Vote.TheVariants.{Yes};
+ghost use Rattle.deneva_base.specs.declared.causes.Bound.{Bound};
+ghost use Rattle.deneva_base.specs.declared.rows.Keyed.{Keyed};
 ghost use Rattle.deneva_base.specs.declared.keys.Key.{Key};
 ghost use Rattle.deneva_base.specs.declared.numbers.Attempt.{Attempt};
 ghost use Rattle.deneva_base.specs.declared.numbers.Number.{Number};
@@ -35,7 +40,8 @@ pub fn no_wait_laws()
 /// WAIT_DIE keeps the window law. Each waiter conflicts with an owner of greater stamp or stands behind a waiter of
 /// greater stamp; the first of a key conflicts with an owner of greater stamp; one that conflicts with no owner stands
 /// behind a conflicting waiter of greater stamp; the waiters of a key stand in strictly falling stamp order. Each access
-/// that was told to wait is woken once or waits still; each wake is granted as the rule says, in its turn.
+/// that was told to wait is woken once or waits still; each wake is granted as the rule says, in its turn. The wakes of a
+/// key are those taken from the front of its queue while compatible with the owners and with those taken before.
 pub fn wait_die_laws()
     ensures windows { (loaded : Rows) (h : History) → Obeys loaded (wait_die loaded) h → KeepsWindows loaded h }
     ensures waits { (loaded : Rows) (h : History) → Obeys loaded (wait_die loaded) h → WaitsForYounger h }
@@ -45,6 +51,7 @@ pub fn wait_die_laws()
     ensures wakes { (loaded : Rows) (h : History) → Obeys loaded (wait_die loaded) h → WakesOnce h }
     ensures right { (loaded : Rows) (h : History) (c : Call) → Obeys loaded (wait_die loaded) (c ∷ h) → WakesRight loaded h c }
     ensures turns { (loaded : Rows) (h : History) (c : Call) → Obeys loaded (wait_die loaded) (c ∷ h) → WakesInTurn loaded h c }
+    ensures front { (loaded : Rows) (h : History) (c : Call) → Obeys loaded (wait_die loaded) (c ∷ h) → WakesFromFront loaded h c }
 {}
 
 /// TIMESTAMP keeps the window law. Each waiter reads and has a granted, unended writer of smaller stamp on its key. Whom
@@ -72,10 +79,12 @@ pub fn mvcc_laws()
     ensures abort_keys { (keep : ℕ) (loaded : Rows) (h : History) (who : Attempt) (a : Asked) → Obeys loaded (mvcc keep loaded) h → IsIn a (waits h) → holds h who a.key ≡ false → list_any (writer_between loaded (Abort who [] ∷ h) a) (holders (Abort who [] ∷ h)) ≡ true }
 {}
 
-/// MAAT, whatever length its windows have, keeps the window law, and nothing waits.
+/// MAAT, whatever length its windows have, keeps the window law, and nothing waits. The window of a vote Yes has at least
+/// one number and at most the span, where that is not 0.
 pub fn maat_laws()
     ensures windows { (span : ℕ) (loaded : Rows) (h : History) → Obeys loaded (maat span loaded) h → KeepsWindows loaded h }
     ensures waits { (span : ℕ) (loaded : Rows) (h : History) → Obeys loaded (maat span loaded) h → NothingWaits h }
+    ensures window { (span : ℕ) (loaded : Rows) (h : History) (who : Attempt) (bound : Bound) (writes appends : List Keyed) (lo hi : ℕ) → 1 ≤ span → (maat span loaded).vote h who bound writes appends ≡ Yes lo hi → (lo ≤ hi) × (hi < lo + span) }
 {}
 
 /// Each rule meets all that the laws of runs ask of one: its windows, wakes and granted rows, the causes that it names,
@@ -94,4 +103,12 @@ pub fn protocols_are_served()
     ensures votes { (p : Protocol) → IsVoting p ⊎ (p ≡ Calvin) }
     ensures chooses { (p : Protocol) → IsVoting p → (o : Chosen) × (chosen p ≡ Some o) }
     ensures served { (p : Protocol) (o : Chosen) → chosen p ≡ Some o → Served o.rule }
+{}
+
+/// The latest version of a key is the greatest of its committed writes and the loaded row, its n the greatest that was
+/// written, and it is the version below each stamp that is above them all.
+pub fn committed_writes_agree()
+    ensures latest { (loaded : Rows) (h : History) (key : Key) → latest loaded h key ≡ greatest (start loaded key) (written h key) }
+    ensures top { (loaded : Rows) (h : History) (key : Key) → (latest loaded h key).number.n ≡ top_written h key }
+    ensures below { (loaded : Rows) (h : History) (key : Key) (stamp : ℕ) → ((v : Version) → IsIn v (written h key) → v.number.n < stamp) → below loaded h key stamp ≡ latest loaded h key }
 {}

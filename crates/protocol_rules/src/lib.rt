@@ -3,8 +3,13 @@
 #![tactic(auto)]
 
 mod laws;
+mod named;
 
 pub use laws::{
-    maat_laws, mvcc_laws, no_wait_laws, protocols_are_served, rules_serve, timestamp_laws,
-    wait_die_laws,
+    committed_writes_agree, maat_laws, mvcc_laws, no_wait_laws, protocols_are_served, rules_serve,
+    timestamp_laws, wait_die_laws,
+};
+pub use named::{
+    maat_names_its_ends, mvcc_names_the_greatest, no_wait_names_the_least,
+    timestamp_names_the_greatest, wait_die_names_the_least,
 };

@@ -34,5 +34,4 @@ fresh_tracks store t f l = record {
   held = λ k. ap (λ (z : Accesses). z.held) (f.lines k);
   past = λ k. ap (λ (z : Accesses). z.past) (f.lines k);
   kept = keeps_fresh false f.shelf l;
-  voted = f.voted;
 }

@@ -117,7 +117,6 @@ module _ (loaded : Rows) (h : History) (sound : Sound loaded h) (who : Attempt) 
               (λ x. ap (λ (l : Accesses). l.past) x.1 ∙ t.past k ∙ sym (past_stays k))
               (cases k);
           kept = keeps_granted t.kept c.shelf;
-          voted = c.voted ∙ t.voted;
         }
       where
         apart : (k : Key) → key ≢ k → key_eq key k ≡ false
@@ -129,7 +128,6 @@ reserved loaded h old new t c = record {
   held = λ k. ap (λ x. (accesses_at x k).held) c.lines ∙ t.held k;
   past = λ k. ap (λ x. (accesses_at x k).past) c.lines ∙ t.past k;
   kept = keeps_reserved t.kept c.shelf;
-  voted = c.voted ∙ t.voted;
 }
 
 pub only_noted : (loaded : Rows) (h : History) (who : Attempt) (stamp : ℕ) (key : Key) (old new : Table) → Tracks loaded (state_of old) h → MayNote who stamp key old new → Tracks loaded (state_of new) h
@@ -137,5 +135,4 @@ only_noted loaded h who stamp key old new t c = record {
   held = λ k. ap (λ (l : Accesses). l.held) (c.lines k) ∙ t.held k;
   past = λ k. ap (λ (l : Accesses). l.past) (c.lines k) ∙ t.past k;
   kept = ⊎_elim (λ r. keeps_reserved t.kept r) (λ n. keeps_noted t.kept n) c.shelf;
-  voted = c.voted ∙ t.voted;
 }

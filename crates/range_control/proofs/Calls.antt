@@ -32,7 +32,7 @@ use Rattle.range_control.specs.Accesses.{past_over}
 use Rattle.range_control.specs.Tables.{accesses_at, low_at}
 use Rattle.range_control.specs.Changes.{Adds, Votes, EndsOne, past_version, bound_in, new_access, lower_for, upper_for}
 use Rattle.range_control.specs.Standing.{state_of, Tracks, Stands}
-use Rattle.range_control.proofs.Histories.{InRange, in_range, numbers_small, voted, latest_top, least_most}
+use Rattle.range_control.proofs.Histories.{InRange, in_range, numbers_small, latest_top, least_most}
 use Rattle.range_control.proofs.Holders.{past_is}
 use Rattle.range_control.proofs.Lowering.{low_below, lower_is}
 use Rattle.range_control.proofs.Uppering.{upper_same}
@@ -115,7 +115,7 @@ module _ (span : ℕ) (t : Table) (loaded : Rows) (h : History) (stands : Stands
 
   module _ (who : Attempt) (bound : Bound) (writes appends : List Keyed) (may : MayPrepare h who bound writes appends) where
     upper_end_is : upper_for t who ≡ record { n = high h who; by = hi_by h who (high h who) }
-    upper_end_is = upper_same loaded h (state_of t) stands.tracks sounds traces.one who may.unended ranges numbers (λ d i. voted loaded (maat span loaded) h d stands.obeys i) may.something
+    upper_end_is = upper_same loaded h (state_of t) stands.tracks sounds traces.one who may.unended ranges numbers
 
     pub upper_small : (upper_for t who).n ≤ 2 ^ 63
     upper_small = omega (arith, ap (λ u. u.n) upper_end_is, least_most (λ (g : Grant). least_by (under_prepared h who g) (yeas h)) (grants h))

@@ -23,7 +23,7 @@ use Rattle.range_control.specs.Ends.{upper_before, first_of, first_by}
 use Rattle.range_control.specs.Seen.{Accesses}
 use Rattle.range_control.specs.Accesses.{own_in, is_writing, overtaken, passed, ended_in}
 use Rattle.range_control.specs.Changes.{EndsOne}
-use Rattle.range_control.specs.Standing.{State, state_of, is_held, held_here, window_in, under_decided, held_of, Tracks, first_voter}
+use Rattle.range_control.specs.Standing.{State, state_of, is_held, held_here, window_in, under_decided, held_of, Tracks}
 use Rattle.range_control.proofs.Firsts.{first_more}
 use Rattle.range_control.proofs.Lists.{map_same, map_both, filter_map, filter_both}
 use Rattle.shelf.specs.Shelves.{held}
@@ -59,7 +59,6 @@ module _ (loaded : Rows) (h h' : History) (who : Attempt) (number : Option Numbe
         held = held;
         past = past;
         kept = keeps_ended apart c t.kept e.shelf versions;
-        voted = e.voted ∙ t.voted ∙ ap first_voter (sym c.yeas_same);
       }
 
 -- who is held still

@@ -1,21 +1,9 @@
 -- The first of a list in an order.
 use Rattle.std.proofs.Common.{◌≡◌, ◌⊎◌, List, [], ◌∷◌, ◌++◌, Bool, true, false, cond, refl, sym, ap, ◌∙◌, subst, inl, inr, ⊎_elim, arith, Option, Some, None}
 use Rattle.std.proofs.lemmas.Bool.Decides.{nat_tests}
-use Rattle.deneva_base.specs.Keys.{attempt_lt}
 use Rattle.deneva_base.specs.Lists.{IsIn}
+use Rattle.protocol_rules.proofs.Leasts.{Ordered}
 use Rattle.range_control.specs.Ends.{upper_before, lower_before, first_of, first_by}
-
-pub record Ordered {A : Type 0} (before : A → A → Bool) : Type 0 where
-  pub self : (x : A) → before x x ≡ false
-  pub trans : (a b c : A) → before a b ≡ false → before b c ≡ false → before a c ≡ false
-  pub back : (a b : A) → before a b ≡ true → before b a ≡ false
-
-pub attempts_ordered : Ordered attempt_lt
-attempts_ordered = record {
-  self = λ x. grind (arith, nat_tests);
-  trans = λ a b c e f. grind (arith, nat_tests);
-  back = λ a b e. grind (arith, nat_tests);
-}
 
 pub uppers_ordered : Ordered upper_before
 uppers_ordered = record {

@@ -66,20 +66,6 @@ module _ (span : ℕ) (loaded : Rows) where
           next
           i
 
-module _ (loaded : Rows) (rule : Rule) where
-  -- who commits voted
-  pub voted : (h : History) (d : Decided) → Obeys loaded rule h → IsIn d (decided h) → (y : Yea) × IsIn y (yeas h) × (y.who ≡ d.who)
-  voted [] d o i = absurd i
-  voted (Ask who stamp k mode answer ∷ h) d o i = voted h d o.2 i
-  voted (Prepare who bound ws as' (Yes lo hi) ∷ h) d o i = let v = voted h d o.2 i in (v.0, inr v.1, v.2)
-  voted (Prepare who bound ws as' (No cause) ∷ h) d o i = voted h d o.2 i
-  voted (Commit who number woken ∷ h) d o i =
-      ⊎_elim
-      (λ (e : d ≡ record { who = who; number = number }). let m = o.0.inside in (m.0, m.1, m.2 ∙ sym (ap (λ (z : Decided). z.who) e)))
-      (λ j. voted h d o.2 j)
-      i
-  voted (Abort who woken ∷ h) d o i = voted h d o.2 i
-
 -- an attempt that wrote a key voted so
 pub wrote_found : (h : History) (u : Attempt) (key : Key) → wrote h u key ≡ true → (y : Yea) × IsIn y (yeas h) × (y.who ≡ u) × (lists y.writes key ≡ true)
 wrote_found h u key e =

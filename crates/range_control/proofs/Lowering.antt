@@ -10,7 +10,7 @@ use Rattle.deneva_base.specs.Rows.{Rows}
 use Rattle.deneva_base.specs.Modes.{reads}
 use Rattle.deneva_base.specs.Keys.{key_lt}
 use Rattle.protocol_rules.specs.History.{History, Grant, Yea, grants, yeas, IsUnended}
-use Rattle.protocol_rules.specs.Ranged.{lists, past, low_of, low, first_key, lo_key}
+use Rattle.protocol_rules.specs.Ranged.{lists, past, low_of, low, least_or, lo_key}
 use Rattle.deneva_base.proofs.Membership.{in_map, in_map_from, in_filter, filter_in, attempt_decides, attempt_tells}
 use Rattle.protocol_rules.proofs.Belows.{greatest_le}
 use Rattle.protocol_rules.proofs.Timestamps.{top_by}
@@ -140,11 +140,11 @@ module _ (loaded : Rows) (h : History) (s : State) (t : Tracks loaded s h) (one 
         let key : lo_key h bound (low_of h who ws) (low h who bound ws) ≡ bound.key = go (eqb bound.n (low h who bound ws)) refl in
         λ i. record { n = n i; key = sym key i }
       where
-        go : (t : Bool) → eqb bound.n (low h who bound ws) ≡ t → cond t bound.key (first_key bound.key (map (λ (g : Grant). g.key) (filter (λ g. eqb (low_of h who ws g) (low h who bound ws)) (grants h)))) ≡ bound.key
+        go : (t : Bool) → eqb bound.n (low h who bound ws) ≡ t → cond t bound.key (least_or key_lt bound.key (map (λ (g : Grant). g.key) (filter (λ g. eqb (low_of h who ws g) (low h who bound ws)) (grants h)))) ≡ bound.key
         go true e = refl
         go false e =
             let zero : bound.n < low h who bound ws = grind (arith, nat_tests, e) in
-            ap (λ gs. first_key bound.key (map (λ (g : Grant). g.key) gs)) (none_of (λ g. eqb (low_of h who ws g) (low h who bound ws)) (grants h)
+            ap (λ gs. least_or key_lt bound.key (map (λ (g : Grant). g.key) gs)) (none_of (λ g. eqb (low_of h who ws g) (low h who bound ws)) (grants h)
             (λ g i. eqb_apart (low_of h who ws g) (low h who bound ws) (omega (arith, zero, less, best.n, top_by (low_of h who ws) g (grants h) i))))
 
   pub lower_is : (bound : Bound) → ((g : Grant) × IsIn g (grants h) × (g.who ≡ who)) → lower_end bound (best_low s who ws) ≡ record { n = low h who bound ws; key = lo_key h bound (low_of h who ws) (low h who bound ws) }

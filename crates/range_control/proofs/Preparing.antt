@@ -87,9 +87,6 @@ module _ (loaded : Rows) (h : History) (sound : Sound loaded h) (who : Attempt) 
               (λ g i. held_after g k (let f = filter_in (is_held h k) g (reverse (grants h)) i in (key_decides g.key k).0 (and_parts (key_eq g.key k) (not (has_ended h g.who)) f.1).0));
           past = λ k. ap (λ (l : Accesses). l.past) (lines k) ∙ t.past k;
           kept = keeps_promised may.unended refl t.kept c.shelf;
-          voted =
-              c.voted ∙ ap (λ o. first_of attempt_lt o (Some who)) t.voted
-              ∙ sym (ap (first_by attempt_lt (λ (y : Yea). Some y.who) None) (reverse-cons mine (yeas h)) ∙ first_more attempt_lt (λ (y : Yea). Some y.who) None (reverse (yeas h)) mine);
         }
       where
         mine : Yea
@@ -101,7 +98,6 @@ module _ (loaded : Rows) (h : History) (sound : Sound loaded h) (who : Attempt) 
     held = t.held;
     past = t.past;
     kept = keeps_no t.kept;
-    voted = t.voted;
   }
 
   pub vote_tracks : (vote : Vote) (old new : Table) → Tracks loaded (state_of old) h → Votes vote who writes appends old new → Tracks loaded (state_of new) (Prepare who bound writes appends vote ∷ h)

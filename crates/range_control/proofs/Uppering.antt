@@ -11,18 +11,18 @@ use Rattle.deneva_base.specs.Modes.{reads}
 use Rattle.deneva_base.specs.Keys.{key_eq, attempt_eq, attempt_lt, number_lt}
 use Rattle.protocol_rules.specs.History.{History, Grant, Yea, Decided, grants, yeas, decided, IsUnended}
 use Rattle.protocol_rules.specs.Latest.{has_ended}
-use Rattle.protocol_rules.specs.Ranged.{lists, wrote, under_prepared, under_committed, high, first_attempt, hi_by}
+use Rattle.protocol_rules.specs.Ranged.{lists, wrote, limits_prepared, under_prepared, limits_committed, under_committed, high, least_or, gives_prepared, gives_committed, hi_by}
 use Rattle.deneva_base.proofs.Membership.{in_left, in_right, in_cases, in_map, in_map_from, in_filter, filter_in, any_at, any_found, and_true, and_parts, key_decides, attempt_decides}
 use Rattle.protocol_rules.proofs.Unended.{not_ended, is_unended}
 use Rattle.protocol_rules.proofs.Sound.{Sound}
 use Rattle.protocol_rules.proofs.Rangeds.{bottom_by}
 use Rattle.range_control.specs.declared.ends.Upper.{Upper}
 use Rattle.range_control.specs.declared.accesses.Window.{Window}
-use Rattle.range_control.specs.Ends.{upper_before, first_by, upper_end, attempt_or}
+use Rattle.range_control.specs.Ends.{upper_before, first_by, upper_end}
 use Rattle.range_control.specs.Accesses.{own_in, under, left_by, upper_in}
 use Rattle.shelf.specs.Shelves.{held}
-use Rattle.range_control.specs.Standing.{State, under_decided, window_in, held_of, first_voter, Tracks}
-use Rattle.range_control.proofs.Firsts.{first_some, first_none, first_leaves, first_keeps, some_is, uppers_ordered, attempts_ordered}
+use Rattle.range_control.specs.Standing.{State, under_decided, window_in, held_of, Tracks}
+use Rattle.range_control.proofs.Firsts.{first_some, first_none, first_leaves, first_keeps, some_is, uppers_ordered}
 use Rattle.range_control.proofs.Leasts.{first_attempt_is}
 use Rattle.range_control.proofs.Histories.{InRange, least_most, least_ge}
 use Rattle.range_control.proofs.Holders.{own, listed, real, in_reverse, reverse_in, window_of, window_some, window_found}
@@ -35,13 +35,7 @@ upper_key s who key = upper_in (s.lines key).held (own_in who (s.lines key).held
 abbrev pub best_upper : State → Attempt → Option Upper
 best_upper s who = first_by upper_before (upper_key s who) None (held s.shelf who).keys
 
--- a prepared attempt limits the access, or a committed one does
-abbrev prepared_test : History → Attempt → Grant → Yea → Bool
-prepared_test h who g y = attempt_eq g.who who && (reads g.mode && (not (attempt_eq y.who who) && (not (has_ended h y.who) && (lists y.writes g.key && ltb g.version.n y.hi))))
-
-abbrev committed_test : History → Attempt → Grant → Decided → Bool
-committed_test h who g d = attempt_eq g.who who && (reads g.mode && (wrote h d.who g.key && number_lt g.version d.number))
-
+-- what limits an access, and to which end
 abbrev prepared_end : Yea → Upper
 prepared_end y = record { n = y.lo - 1; by = y.who }
 
@@ -54,8 +48,8 @@ committed_end d = record { n = d.number.n - 1; by = d.who }
 -- it gives this upper end
 abbrev Gives : History → Attempt → Upper → Type 0
 Gives h who u =
-    ((g : Grant) × (y : Yea) × IsIn g (grants h) × IsIn y (yeas h) × (prepared_test h who g y ≡ true) × (u ≡ prepared_end y))
-    ⊎ ((g : Grant) × (d : Decided) × IsIn g (grants h) × IsIn d (decided h) × (committed_test h who g d ≡ true) × (u ≡ committed_end d))
+    ((g : Grant) × (y : Yea) × IsIn g (grants h) × IsIn y (yeas h) × (limits_prepared h who g y ≡ true) × (u ≡ prepared_end y))
+    ⊎ ((g : Grant) × (d : Decided) × IsIn g (grants h) × IsIn d (decided h) × (limits_committed h who g d ≡ true) × (u ≡ committed_end d))
 
 not_over : (u v : Upper) → upper_before v u ≡ false → u.n ≤ v.n
 not_over u v e = grind (arith, nat_tests, e)
@@ -142,7 +136,7 @@ module _ (loaded : Rows) (h : History) (s : State) (t : Tracks loaded s h) (soun
   reaches : (v : Upper) → Gives h who v → (x : Upper) × (k : Key) × IsIn k (held s.shelf who).keys × (upper_key s who k ≡ Some x) × (upper_before v x ≡ false)
   reaches v gives = ⊎_elim (λ p. prepared p.0 p.1 p.2 p.3 p.4 p.5) (λ p. committed p.0 p.1 p.2 p.3 p.4 p.5) gives
     where
-      prepared : (g : Grant) (y : Yea) → IsIn g (grants h) → IsIn y (yeas h) → prepared_test h who g y ≡ true → v ≡ prepared_end y → (x : Upper) × (k : Key) × IsIn k (held s.shelf who).keys × (upper_key s who k ≡ Some x) × (upper_before v x ≡ false)
+      prepared : (g : Grant) (y : Yea) → IsIn g (grants h) → IsIn y (yeas h) → limits_prepared h who g y ≡ true → v ≡ prepared_end y → (x : Upper) × (k : Key) × IsIn k (held s.shelf who).keys × (upper_key s who k ≡ Some x) × (upper_before v x ≡ false)
       prepared g y i j test e =
           let p0 = and_parts (attempt_eq g.who who) (reads g.mode && (not (attempt_eq y.who who) && (not (has_ended h y.who) && (lists y.writes g.key && ltb g.version.n y.hi)))) test in
           let p1 = and_parts (reads g.mode) (not (attempt_eq y.who who) && (not (has_ended h y.who) && (lists y.writes g.key && ltb g.version.n y.hi))) p0.1 in
@@ -168,7 +162,7 @@ module _ (loaded : Rows) (h : History) (s : State) (t : Tracks loaded s h) (soun
           flip true q = absurd (true≢false (sym q))
           flip false q = refl
 
-      committed : (g : Grant) (d : Decided) → IsIn g (grants h) → IsIn d (decided h) → committed_test h who g d ≡ true → v ≡ committed_end d → (x : Upper) × (k : Key) × IsIn k (held s.shelf who).keys × (upper_key s who k ≡ Some x) × (upper_before v x ≡ false)
+      committed : (g : Grant) (d : Decided) → IsIn g (grants h) → IsIn d (decided h) → limits_committed h who g d ≡ true → v ≡ committed_end d → (x : Upper) × (k : Key) × IsIn k (held s.shelf who).keys × (upper_key s who k ≡ Some x) × (upper_before v x ≡ false)
       committed g d i j test e =
           let p0 = and_parts (attempt_eq g.who who) (reads g.mode && (wrote h d.who g.key && number_lt g.version d.number)) test in
           let p1 = and_parts (reads g.mode) (wrote h d.who g.key && number_lt g.version d.number) p0.1 in
@@ -197,7 +191,7 @@ module _ (loaded : Rows) (h : History) (s : State) (t : Tracks loaded s h) (soun
       let r = reaches v gives in
       cc (sym r.3 ∙ (first_none upper_before uppers_ordered (upper_key s who) None (held s.shelf who).keys e).1 r.1 r.2)
 
-  module _ (ranges : (y : Yea) → IsIn y (yeas h) → InRange y) (numbers : (d : Decided) → IsIn d (decided h) → d.number.n < 2 ^ 48) (voters : (d : Decided) → IsIn d (decided h) → (y : Yea) × IsIn y (yeas h) × (y.who ≡ d.who)) where
+  module _ (ranges : (y : Yea) → IsIn y (yeas h) → InRange y) (numbers : (d : Decided) → IsIn d (decided h) → d.number.n < 2 ^ 48) where
     small : (u : Upper) → Gives h who u → u.n < 2 ^ 63
     small u gives = ⊎_elim
         (λ p. let r = ranges p.1 p.3 in omega (arith, r.positive, r.low, ap (λ (z : Upper). z.n) p.5))
@@ -206,16 +200,16 @@ module _ (loaded : Rows) (h : History) (s : State) (t : Tracks loaded s h) (soun
 
     -- what one pair gives
     prepared_n : (g : Grant) (y : Yea) → IsIn g (grants h) → IsIn y (yeas h) → (Gives h who (prepared_end y) × (under_prepared h who g y ≡ y.lo - 1)) ⊎ (under_prepared h who g y ≡ 2 ^ 63)
-    prepared_n g y i j = go (prepared_test h who g y) refl
+    prepared_n g y i j = go (limits_prepared h who g y) refl
       where
-        go : (b : Bool) → prepared_test h who g y ≡ b → (Gives h who (prepared_end y) × (cond b (y.lo - 1) (2 ^ 63) ≡ y.lo - 1)) ⊎ (cond b (y.lo - 1) (2 ^ 63) ≡ 2 ^ 63)
+        go : (b : Bool) → limits_prepared h who g y ≡ b → (Gives h who (prepared_end y) × (cond b (y.lo - 1) (2 ^ 63) ≡ y.lo - 1)) ⊎ (cond b (y.lo - 1) (2 ^ 63) ≡ 2 ^ 63)
         go true e = inl (inl (g, y, i, j, e, refl), refl)
         go false e = inr refl
 
     committed_n : (g : Grant) (d : Decided) → IsIn g (grants h) → IsIn d (decided h) → (Gives h who (committed_end d) × (under_committed h who g d ≡ d.number.n - 1)) ⊎ (under_committed h who g d ≡ 2 ^ 63)
-    committed_n g d i j = go (committed_test h who g d) refl
+    committed_n g d i j = go (limits_committed h who g d) refl
       where
-        go : (b : Bool) → committed_test h who g d ≡ b → (Gives h who (committed_end d) × (cond b (d.number.n - 1) (2 ^ 63) ≡ d.number.n - 1)) ⊎ (cond b (d.number.n - 1) (2 ^ 63) ≡ 2 ^ 63)
+        go : (b : Bool) → limits_committed h who g d ≡ b → (Gives h who (committed_end d) × (cond b (d.number.n - 1) (2 ^ 63) ≡ d.number.n - 1)) ⊎ (cond b (d.number.n - 1) (2 ^ 63) ≡ 2 ^ 63)
         go true e = inl (inr (g, d, i, j, e, refl), refl)
         go false e = inr refl
 
@@ -258,97 +252,58 @@ module _ (loaded : Rows) (h : History) (s : State) (t : Tracks loaded s h) (soun
     high_none e = let ge = high_ge (2 ^ 63) (omega arith) (λ v g. absurd (best_none v e g)) in omega (arith, ge, high_most)
 
     -- those that give an upper end
-    abbrev prepared_at : ℕ → Yea → Bool
-    prepared_at hi y = list_any (λ g. eqb (under_prepared h who g y) hi) (grants h)
-
-    abbrev committed_at : ℕ → Decided → Bool
-    committed_at hi d = list_any (λ g. eqb (under_committed h who g d) hi) (grants h)
-
     abbrev names : ℕ → List Attempt
-    names hi = map (λ (y : Yea). y.who) (filter (prepared_at hi) (yeas h)) ++ map (λ (d : Decided). d.who) (filter (committed_at hi) (decided h))
+    names hi = map (λ (y : Yea). y.who) (filter (gives_prepared h who hi) (yeas h)) ++ map (λ (d : Decided). d.who) (filter (gives_committed h who hi) (decided h))
 
-    prepared_named : (hi : ℕ) (g : Grant) (y : Yea) → IsIn g (grants h) → IsIn y (yeas h) → under_prepared h who g y ≡ hi → IsIn y.who (names hi)
-    prepared_named hi g y i j e =
-        in_left y.who (map (λ (z : Yea). z.who) (filter (prepared_at hi) (yeas h))) (map (λ (d : Decided). d.who) (filter (committed_at hi) (decided h)))
-        (in_map (λ (z : Yea). z.who) y (filter (prepared_at hi) (yeas h)) (in_filter (prepared_at hi) y (yeas h) j (any_at (λ x. eqb (under_prepared h who x y) hi) g (grants h) i (eqb_same (under_prepared h who g y) hi e))))
+    prepared_named : (hi : ℕ) (g : Grant) (y : Yea) → IsIn g (grants h) → IsIn y (yeas h) → limits_prepared h who g y ≡ true → y.lo - 1 ≡ hi → IsIn y.who (names hi)
+    prepared_named hi g y i j t e =
+        in_left y.who (map (λ (z : Yea). z.who) (filter (gives_prepared h who hi) (yeas h))) (map (λ (d : Decided). d.who) (filter (gives_committed h who hi) (decided h)))
+        (in_map (λ (z : Yea). z.who) y (filter (gives_prepared h who hi) (yeas h)) (in_filter (gives_prepared h who hi) y (yeas h) j (any_at (λ x. limits_prepared h who x y && eqb (y.lo - 1) hi) g (grants h) i (and_true (limits_prepared h who g y) (eqb (y.lo - 1) hi) t (eqb_same (y.lo - 1) hi e)))))
 
-    committed_named : (hi : ℕ) (g : Grant) (d : Decided) → IsIn g (grants h) → IsIn d (decided h) → under_committed h who g d ≡ hi → IsIn d.who (names hi)
-    committed_named hi g d i j e =
-        in_right d.who (map (λ (z : Yea). z.who) (filter (prepared_at hi) (yeas h))) (map (λ (z : Decided). z.who) (filter (committed_at hi) (decided h)))
-        (in_map (λ (z : Decided). z.who) d (filter (committed_at hi) (decided h)) (in_filter (committed_at hi) d (decided h) j (any_at (λ x. eqb (under_committed h who x d) hi) g (grants h) i (eqb_same (under_committed h who g d) hi e))))
+    committed_named : (hi : ℕ) (g : Grant) (d : Decided) → IsIn g (grants h) → IsIn d (decided h) → limits_committed h who g d ≡ true → d.number.n - 1 ≡ hi → IsIn d.who (names hi)
+    committed_named hi g d i j t e =
+        in_right d.who (map (λ (z : Yea). z.who) (filter (gives_prepared h who hi) (yeas h))) (map (λ (z : Decided). z.who) (filter (gives_committed h who hi) (decided h)))
+        (in_map (λ (z : Decided). z.who) d (filter (gives_committed h who hi) (decided h)) (in_filter (gives_committed h who hi) d (decided h) j (any_at (λ x. limits_committed h who x d && eqb (d.number.n - 1) hi) g (grants h) i (and_true (limits_committed h who g d) (eqb (d.number.n - 1) hi) t (eqb_same (d.number.n - 1) hi e)))))
 
     -- who is named gives it
-    named : (hi : ℕ) (z : Attempt) → IsIn z (names hi) → ((g : Grant) × (y : Yea) × IsIn g (grants h) × IsIn y (yeas h) × (under_prepared h who g y ≡ hi) × (z ≡ y.who)) ⊎ ((g : Grant) × (d : Decided) × IsIn g (grants h) × IsIn d (decided h) × (under_committed h who g d ≡ hi) × (z ≡ d.who))
+    named : (hi : ℕ) (z : Attempt) → IsIn z (names hi) → (v : Upper) × Gives h who v × (v.n ≡ hi) × (z ≡ v.by)
     named hi z i = ⊎_elim
         (λ p.
-        let m = in_map_from (λ (y : Yea). y.who) z (filter (prepared_at hi) (yeas h)) p in
-        let f = filter_in (prepared_at hi) m.0 (yeas h) m.1 in
-        let g = any_found (λ x. eqb (under_prepared h who x m.0) hi) (grants h) f.1 in
-        inl (g.0, m.0, g.1, f.0, same_eqb (under_prepared h who g.0 m.0) hi g.2, m.2))
+        let m = in_map_from (λ (y : Yea). y.who) z (filter (gives_prepared h who hi) (yeas h)) p in
+        let f = filter_in (gives_prepared h who hi) m.0 (yeas h) m.1 in
+        let g = any_found (λ x. limits_prepared h who x m.0 && eqb (m.0.lo - 1) hi) (grants h) f.1 in
+        let t = and_parts (limits_prepared h who g.0 m.0) (eqb (m.0.lo - 1) hi) g.2 in
+        (prepared_end m.0, inl (g.0, m.0, g.1, f.0, t.0, refl), same_eqb (m.0.lo - 1) hi t.1, m.2))
         (λ p.
-        let m = in_map_from (λ (d : Decided). d.who) z (filter (committed_at hi) (decided h)) p in
-        let f = filter_in (committed_at hi) m.0 (decided h) m.1 in
-        let g = any_found (λ x. eqb (under_committed h who x m.0) hi) (grants h) f.1 in
-        inr (g.0, m.0, g.1, f.0, same_eqb (under_committed h who g.0 m.0) hi g.2, m.2))
-        (in_cases z (map (λ (y : Yea). y.who) (filter (prepared_at hi) (yeas h))) (map (λ (d : Decided). d.who) (filter (committed_at hi) (decided h))) i)
+        let m = in_map_from (λ (d : Decided). d.who) z (filter (gives_committed h who hi) (decided h)) p in
+        let f = filter_in (gives_committed h who hi) m.0 (decided h) m.1 in
+        let g = any_found (λ x. limits_committed h who x m.0 && eqb (m.0.number.n - 1) hi) (grants h) f.1 in
+        let t = and_parts (limits_committed h who g.0 m.0) (eqb (m.0.number.n - 1) hi) g.2 in
+        (committed_end m.0, inr (g.0, m.0, g.1, f.0, t.0, refl), same_eqb (m.0.number.n - 1) hi t.1, m.2))
+        (in_cases z (map (λ (y : Yea). y.who) (filter (gives_prepared h who hi) (yeas h))) (map (λ (d : Decided). d.who) (filter (gives_committed h who hi) (decided h))) i)
 
     by_some : (u : Upper) → best_upper s who ≡ Some u → hi_by h who (high h who) ≡ u.by
     by_some u e =
         let gives = best_gives u e in
         let n = high_some u e in
-        let less = small u gives in
         first_attempt_is who (names (high h who)) u.by
         (⊎_elim
-        (λ p. subst (λ a. IsIn a (names (high h who))) (sym (ap (λ (z : Upper). z.by) p.5)) (prepared_named (high h who) p.0 p.1 p.2 p.3 (ap (λ b. cond b (p.1.lo - 1) (2 ^ 63)) p.4 ∙ sym (ap (λ (z : Upper). z.n) p.5) ∙ sym n)))
-        (λ p. subst (λ a. IsIn a (names (high h who))) (sym (ap (λ (z : Upper). z.by) p.5)) (committed_named (high h who) p.0 p.1 p.2 p.3 (ap (λ b. cond b (p.1.number.n - 1) (2 ^ 63)) p.4 ∙ sym (ap (λ (z : Upper). z.n) p.5) ∙ sym n)))
+        (λ p. subst (λ a. IsIn a (names (high h who))) (sym (ap (λ (z : Upper). z.by) p.5)) (prepared_named (high h who) p.0 p.1 p.2 p.3 p.4 (sym (ap (λ (z : Upper). z.n) p.5) ∙ sym n)))
+        (λ p. subst (λ a. IsIn a (names (high h who))) (sym (ap (λ (z : Upper). z.by) p.5)) (committed_named (high h who) p.0 p.1 p.2 p.3 p.4 (sym (ap (λ (z : Upper). z.n) p.5) ∙ sym n)))
         gives)
-        (λ z i. ⊎_elim
-        (λ p. ⊎_elim
-        (λ q. subst (λ a. attempt_lt a u.by ≡ false) (sym p.5) (not_before u (prepared_end p.1) (best_first u (prepared_end p.1) e q.0) (sym q.1 ∙ p.4 ∙ n)))
-        (λ q. absurd (omega (arith, less, q, p.4, n)))
-        (prepared_n p.0 p.1 p.2 p.3))
-        (λ p. ⊎_elim
-        (λ q. subst (λ a. attempt_lt a u.by ≡ false) (sym p.5) (not_before u (committed_end p.1) (best_first u (committed_end p.1) e q.0) (sym q.1 ∙ p.4 ∙ n)))
-        (λ q. absurd (omega (arith, less, q, p.4, n)))
-        (committed_n p.0 p.1 p.2 p.3))
-        (named (high h who) z i))
+        (λ z i. let v = named (high h who) z i in subst (λ a. attempt_lt a u.by ≡ false) (sym v.3) (not_before u v.0 (best_first u v.0 e v.1) (v.2 ∙ n)))
 
-    module _ (something : (g : Grant) × IsIn g (grants h) × (g.who ≡ who)) where
-      -- where nothing limits it, all that voted are named
-      by_none : best_upper s who ≡ None → hi_by h who (2 ^ 63) ≡ attempt_or who (first_voter (yeas h))
-      by_none e = go (first_voter (yeas h)) refl
-        where
-          go : (o : Option Attempt) → first_voter (yeas h) ≡ o → hi_by h who (2 ^ 63) ≡ attempt_or who o
-          go None n =
-              let nobody = (first_none attempt_lt attempts_ordered (λ (y : Yea). Some y.who) None (reverse (yeas h)) n).1 in
-              let no : (y : Yea) → IsIn y (yeas h) → ⊥ = λ y i. cc (nobody y (in_reverse y (yeas h) i)) in
-              ap (first_attempt who) (nil (names (2 ^ 63)) (λ z i. ⊎_elim (λ p. no p.1 p.3) (λ p. let v = voters p.1 p.3 in no v.0 v.1) (named (2 ^ 63) z i)))
-            where
-              nil : (xs : List Attempt) → ((x : Attempt) → IsIn x xs → ⊥) → xs ≡ []
-              nil [] f = refl
-              nil (x ∷ xs) f = absurd (f x (inl refl))
-          go (Some a) n =
-              let f = first_some attempt_lt attempts_ordered (λ (y : Yea). Some y.who) None (reverse (yeas h)) a n in
-              let least : (y : Yea) → IsIn y (yeas h) → attempt_lt y.who a ≡ false = λ y i. f.none_before y y.who (in_reverse y (yeas h) i) refl in
-              first_attempt_is who (names (2 ^ 63)) a
-              (⊎_elim
-              (λ z. absurd (cc z))
-              (λ y.
-              let i = reverse_in y.0 (yeas h) y.1 in
-              subst (λ w. IsIn w (names (2 ^ 63))) (some_is y.0.who a y.2)
-              (prepared_named (2 ^ 63) something.0 y.0 something.1 i (⊎_elim (λ p. absurd (best_none (prepared_end y.0) e p.0)) (λ q. q) (prepared_n something.0 y.0 something.1 i))))
-              f.from)
-              (λ z i. ⊎_elim
-              (λ p. subst (λ w. attempt_lt w a ≡ false) (sym p.5) (least p.1 p.3))
-              (λ p. let v = voters p.1 p.3 in subst (λ w. attempt_lt w a ≡ false) (v.2 ∙ sym p.5) (least v.0 v.1))
-              (named (2 ^ 63) z i))
+    -- where nothing limits the attempt, it is named itself
+    by_none : best_upper s who ≡ None → hi_by h who (high h who) ≡ who
+    by_none e = ap (least_or attempt_lt who) (nil (names (high h who)) (λ z i. let v = named (high h who) z i in best_none v.0 e v.1))
+      where
+        nil : (xs : List Attempt) → ((x : Attempt) → IsIn x xs → ⊥) → xs ≡ []
+        nil [] f = refl
+        nil (x ∷ xs) f = absurd (f x (inl refl))
 
-      pub upper_same : upper_end (attempt_or who s.voted) (best_upper s who) ≡ record { n = high h who; by = hi_by h who (high h who) }
-      upper_same = go (best_upper s who) refl
-        where
-          go : (o : Option Upper) → best_upper s who ≡ o → upper_end (attempt_or who s.voted) o ≡ record { n = high h who; by = hi_by h who (high h who) }
-          go (Some u) e = let n = high_some u e in let by = by_some u e in λ i. record { n = sym n i; by = sym by i }
-          go None e =
-              let n = high_none e in
-              let by : hi_by h who (high h who) ≡ attempt_or who s.voted = ap (hi_by h who) n ∙ by_none e ∙ ap (attempt_or who) (sym t.voted) in
-              λ i. record { n = sym n i; by = sym by i }
+    pub upper_same : upper_end who (best_upper s who) ≡ record { n = high h who; by = hi_by h who (high h who) }
+    upper_same = go (best_upper s who) refl
+      where
+        go : (o : Option Upper) → best_upper s who ≡ o → upper_end who o ≡ record { n = high h who; by = hi_by h who (high h who) }
+        go (Some u) e = let n = high_some u e in let by = by_some u e in λ i. record { n = sym n i; by = sym by i }
+        go None e = let n = high_none e in let by = by_none e in λ i. record { n = sym n i; by = sym by i }

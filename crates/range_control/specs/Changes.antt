@@ -9,14 +9,13 @@ use Rattle.deneva_base.specs.declared.rows.Keyed.{Keyed}
 use Rattle.deneva_base.specs.declared.causes.Bound.{Bound}
 use Rattle.deneva_base.specs.declared.answers.Vote.{Vote}
 use Rattle.deneva_base.specs.declared.answers.Vote.TheVariants.{Yes, No}
-use Rattle.deneva_base.specs.Keys.{attempt_lt}
 use Rattle.row_store.specs.declared.versions.Version.{Version}
 use Rattle.row_store.specs.Stores.{Seen}
 use Rattle.shelf.specs.Shelves.{held, IsFresh, Notes, Promises, MayReserve, Ends}
 use Rattle.range_control.specs.declared.ends.Upper.{Upper}
 use Rattle.range_control.specs.declared.accesses.Held.{Held}
 use Rattle.range_control.specs.declared.table.Table.{Table}
-use Rattle.range_control.specs.Ends.{upper_before, lower_before, first_of, first_by, lower_end, upper_end, attempt_or}
+use Rattle.range_control.specs.Ends.{upper_before, lower_before, first_by, lower_end, upper_end}
 use Rattle.range_control.specs.Accesses.{no_accesses, ended_in, with_access}
 use Rattle.range_control.specs.Tables.{accesses_at, lower_at, upper_at, prepared_at, all_changed, SetsAccesses, SameAccesses}
 
@@ -39,37 +38,32 @@ abbrev pub lower_for : Table → Attempt → Bound → List Keyed → Bound
 lower_for t who bound ws = lower_end bound (first_by lower_before (lower_at t.lines who ws) None (held t.shelf who).keys)
 
 abbrev pub upper_for : Table → Attempt → Upper
-upper_for t who = upper_end (attempt_or who t.voted) (first_by upper_before (upper_at t.lines who) None (held t.shelf who).keys)
+upper_for t who = upper_end who (first_by upper_before (upper_at t.lines who) None (held t.shelf who).keys)
 
 -- a table of this store, on which nothing was called
 pub record IsNew (store : Seen) (t : Table) : Type 0 where
   pub shelf : IsFresh store t.shelf
   pub lines : (key : Key) → accesses_at t.lines key ≡ no_accesses
-  pub voted : t.voted ≡ None
 
 -- one more access
 pub record Adds (stamp : ℕ) (key : Key) (access : Held) (old new : Table) : Type 0 where
   pub shelf : Notes access.who stamp key old.shelf new.shelf
   pub lines : SetsAccesses old.lines key (with_access access (accesses_at old.lines key)) new.lines
-  pub voted : new.voted ≡ old.voted
 
 -- at most the key is noted
 pub record MayNote (who : Attempt) (stamp : ℕ) (key : Key) (old new : Table) : Type 0 where
   pub shelf : MayReserve old.shelf new.shelf ⊎ Notes who stamp key old.shelf new.shelf
   pub lines : SameAccesses old.lines new.lines
-  pub voted : new.voted ≡ old.voted
 
 -- the attempt has a window, and its rows are kept
 pub record VotesYes (who : Attempt) (lo hi : ℕ) (writes appends : List Keyed) (old new : Table) : Type 0 where
   pub shelf : Promises who writes [] appends old.shelf new.shelf
   pub lines : (key : Key) → accesses_at new.lines key ≡ all_changed (prepared_at who lo hi writes) (held old.shelf who).keys key (accesses_at old.lines key)
-  pub voted : new.voted ≡ first_of attempt_lt old.voted (Some who)
 
 -- at most the store has more room
 pub record MayVote (old new : Table) : Type 0 where
   pub shelf : MayReserve old.shelf new.shelf
   pub lines : new.lines ≡ old.lines
-  pub voted : new.voted ≡ old.voted
 
 -- what a vote changes
 abbrev pub Votes : Vote → Attempt → List Keyed → List Keyed → Table → Table → Type 0
@@ -80,4 +74,3 @@ Votes (No cause) who writes appends old new = new ≡ old
 pub record EndsOne (who : Attempt) (number : Option Number) (old new : Table) : Type 0 where
   pub shelf : Ends who number old.shelf new.shelf
   pub lines : (key : Key) → accesses_at new.lines key ≡ all_changed (λ k. ended_in who number) (held old.shelf who).keys key (accesses_at old.lines key)
-  pub voted : new.voted ≡ old.voted

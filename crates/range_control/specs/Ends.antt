@@ -29,11 +29,7 @@ abbrev pub lower_end : Bound → Option Bound → Bound
 lower_end bound None = record { n = max 1 bound.n; key = bound.key }
 lower_end bound (Some b) = cond (ltb bound.n b.n) b (record { n = max 1 bound.n; key = bound.key })
 
--- the upper end, where nothing gives one, is that of all numbers, and is named after this attempt
+-- the upper end, where nothing gives one, is that of all numbers, and this attempt is named
 abbrev pub upper_end : Attempt → Option Upper → Upper
-upper_end by None = record { n = 2 ^ 63; by = by }
-upper_end by (Some u) = u
-
-abbrev pub attempt_or : Attempt → Option Attempt → Attempt
-attempt_or who None = who
-attempt_or who (Some x) = x
+upper_end who None = record { n = 2 ^ 63; by = who }
+upper_end who (Some u) = u

@@ -4,7 +4,7 @@ use Rattle.std.specs.Prelude.{◌≡◌, ℕ, ◌-◌, List, [], ◌∷◌, map,
 use Rattle.deneva_base.specs.declared.keys.Key.{Key}
 use Rattle.deneva_base.specs.declared.numbers.Attempt.{Attempt}
 use Rattle.deneva_base.specs.Lists.{greatest_by}
-use Rattle.deneva_base.specs.Keys.{key_eq, attempt_eq, attempt_lt, number_lt}
+use Rattle.deneva_base.specs.Keys.{key_eq, attempt_eq, number_lt}
 use Rattle.deneva_base.specs.Modes.{reads}
 use Rattle.deneva_base.specs.Rows.{Rows}
 use Rattle.protocol_rules.specs.History.{History, Grant, Yea, Decided, grants, yeas, decided}
@@ -26,10 +26,9 @@ use Rattle.range_control.specs.Tables.{accesses_at}
 pub record State : Type 0 where
   pub lines : Key → Accesses
   pub shelf : Shelf
-  pub voted : Option Attempt
 
 abbrev pub state_of : Table → State
-state_of t = record { lines = accesses_at t.lines; shelf = t.shelf; voted = t.voted }
+state_of t = record { lines = accesses_at t.lines; shelf = t.shelf }
 
 -- the granted accesses to the key of attempts that have not ended, the oldest first
 abbrev pub is_held : History → Key → Grant → Bool
@@ -51,16 +50,11 @@ under_decided h g d = cond (reads g.mode && (wrote h d.who g.key && number_lt g.
 abbrev pub held_of : History → Grant → Held
 held_of h g = record { who = g.who; mode = g.mode; version = g.version; upper = first_by upper_before (under_decided h g) None (reverse (decided h)); window = window_in (yeas h) g.who g.key }
 
--- the least attempt that voted Yes
-abbrev pub first_voter : List Yea → Option Attempt
-first_voter ys = first_by attempt_lt (λ y. Some y.who) None (reverse ys)
-
 -- the table has what the history gives
 pub record Tracks (loaded : Rows) (s : State) (h : History) : Type 0 where
   pub held : (key : Key) → (s.lines key).held ≡ map (held_of h) (held_here h key)
   pub past : (key : Key) → (s.lines key).past ≡ greatest_by (past_committed h key) (decided h)
   pub kept : KeepsRows false loaded s.shelf h
-  pub voted : s.voted ≡ first_voter (yeas h)
 
 -- the table stands for a history that obeys the rule with windows of at most `span` numbers
 pub record Stands (span : ℕ) (t : Table) (loaded : Rows) (h : History) : Type 0 where

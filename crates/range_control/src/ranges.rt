@@ -14,26 +14,27 @@ use deneva_base::{
 };
 use row_store::Store;
 
-/// MAAT, with windows of at most `SPAN` numbers.
+/// MAAT, with windows of at most `SPAN` numbers. It is a control for the span that is named below, which lies from 1 to
+/// 2^62: no window is empty, and none passes the greatest number.
 #[derive(Drop)]
 pub struct Ranges<const SPAN: u64> {
     table: Table,
 }
 
-impl<const SPAN: u64> Control for Ranges<SPAN> {
+impl Control for Ranges<4096> {
     ghost KIND = { Maat };
 
     ghost FIXED = { true };
 
-    ghost rule = { maat SPAN };
+    ghost rule = { maat 4096 };
 
-    ghost stands = { λ s loaded h. Stands SPAN s.table loaded h };
+    ghost stands = { λ s loaded h. Stands 4096 s.table loaded h };
 
     const KIND: Protocol = Protocol::Maat;
 
     const FIXED: bool = true;
 
-    fn begin(store: Store) -> Result<Ranges<SPAN>, NoMemory> {
+    fn begin(store: Store) -> Result<Ranges<4096>, NoMemory> {
         let table = Table::new(store);
         Ok(Ranges { table })
     }
@@ -49,7 +50,7 @@ impl<const SPAN: u64> Control for Ranges<SPAN> {
         writes: RowList,
         appends: RowList,
     ) -> Result<Vote, PrepareNoMemory> {
-        self.table.prepare(SPAN, who, bound, writes, appends)
+        self.table.prepare(4096, who, bound, writes, appends)
     }
 
     fn commit(&mut self, who: Attempt, number: Number, _woken: &mut Woken) -> Result<(), NoMemory> {
@@ -72,9 +73,9 @@ impl<const SPAN: u64> Control for Ranges<SPAN> {
 
     ghost obeys = { λ s loaded h stands. stands.obeys };
 
-    ghost windows = { λ s loaded h stands. windows_law loaded (maat SPAN loaded) (ranging SPAN loaded) h stands.obeys };
+    ghost windows = { λ s loaded h stands. windows_law loaded (maat 4096 loaded) (ranging 4096 loaded) h stands.obeys };
 
-    ghost waiters = { waits SPAN };
+    ghost waiters = { waits 4096 };
 }
 
 impl Chosen for Ranges<4096> {

@@ -1,6 +1,5 @@
 //! A partition under MAAT: its rows, the accesses to them, and what each attempt has there.
 ghost use Rattle.std.specs.Prelude.{◌≡◌, ◌≤◌, ◌<◌, ◌^◌, ◌+◌, true, None, Some, IfOk, IfErr, IfSome, OnOk, OnErr, length};
-ghost use Rattle.deneva_base.specs.Keys.{attempt_lt};
 ghost use Rattle.deneva_base.specs.Lists.{IsIn};
 ghost use Rattle.protocol_rules.specs.Ranged.{window_vote};
 ghost use Rattle.deneva_base.specs.declared.keys.Key.{Key};
@@ -8,7 +7,6 @@ ghost use Rattle.deneva_base.specs.declared.rows.Keyed.{Keyed};
 ghost use Rattle.deneva_base.specs.declared.answers.Answer.TheVariants.{Granted};
 ghost use Rattle.row_store.specs.Stores.{version_at, has};
 ghost use Rattle.shelf.specs.Shelves.{held, read_in};
-ghost use Rattle.range_control.specs.Ends.{first_of};
 ghost use Rattle.range_control.specs.Accesses.{past_over};
 ghost use Rattle.range_control.specs.Tables.{accesses_at, low_at};
 ghost use Rattle.range_control.specs.Changes.{past_version, bound_in, new_access, lower_for, upper_for, IsNew, Adds, MayNote, VotesYes, MayVote, Votes, EndsOne};
@@ -23,12 +21,11 @@ use deneva_base::{
 use row_store::Store;
 use shelf::Shelf;
 
-/// The rows and what each attempt has here, the accesses, and the least attempt that ever voted Yes.
+/// The rows and what each attempt has here, and the accesses.
 #[derive(Drop)]
 pub(crate) struct Table {
     pub shelf: Shelf,
     pub lines: Lines,
-    pub voted: Option<Attempt>,
 }
 
 impl Table {
@@ -39,7 +36,6 @@ impl Table {
         Table {
             shelf: Shelf::new(store),
             lines: Lines::new(alloc),
-            voted: None,
         }
     }
 
@@ -111,14 +107,14 @@ impl Table {
         lower_end(bound, best)
     }
 
-    /// The upper end. Where nothing gives one it is that of all numbers, and is named after the least attempt that voted.
+    /// The upper end. Where nothing gives one it is that of all numbers, and the attempt itself is named.
     fn upper(&self, who: Attempt) -> Upper
         ensures { result ≡ upper_for self.now who }
     {
         let best = self.lines.upper_over(self.shelf.keys(who), who);
         best.unwrap_or(Upper {
             n: 1 << 63,
-            by: self.voted.unwrap_or(who),
+            by: who,
         })
     }
 
@@ -136,7 +132,6 @@ impl Table {
         ensures returned { IfErr result (λ e. (e.writes ≡ writes) × (e.appends ≡ appends)) }
     {
         self.shelf.promise(who, writes, appends)?;
-        self.voted = Some(first_attempt(self.voted, who));
         let keys = self.shelf.keys(who);
         self.lines
             .prepare_all(keys, who, lo, hi, self.shelf.writes(who));
@@ -155,6 +150,7 @@ impl Table {
         requires past { (key : Key) → past_over (accesses_at self.old.lines key) < 2 ^ 64 }
         requires low { (key : Key) → low_at self.old.lines who writes key < 2 ^ 64 }
         requires upper { (upper_for self.old who).n ≤ 2 ^ 63 }
+        requires span { span ≤ 2 ^ 62 }
         ensures vote { IfOk result (λ v. v ≡ window_vote span (lower_for self.old who bound writes).key (upper_for self.old who).by (lower_for self.old who bound writes).n (upper_for self.old who).n) }
         ensures ok { IfOk result (λ v. Votes v who writes appends self.old self.new) }
         ensures err { OnErr result (MayVote self.old self.new) }
@@ -187,6 +183,7 @@ impl Table {
 fn vote(span: u64, lower: Bound, upper: Upper) -> Vote
     requires positive { 1 ≤ lower.n }
     requires small { upper.n ≤ 2 ^ 63 }
+    requires span { span ≤ 2 ^ 62 }
     ensures { result ≡ window_vote span lower.key upper.by lower.n upper.n }
 {
     if lower.n > upper.n {
@@ -197,19 +194,9 @@ fn vote(span: u64, lower: Bound, upper: Upper) -> Vote
             hi_by: upper.by,
         });
     }
-    let last = lower.n.saturating_add(span) - 1;
+    let last = lower.n + span - 1;
     Vote::Yes {
         lo: lower.n,
         hi: upper.n.min(last),
-    }
-}
-
-/// The lesser of two attempts, where there are both.
-fn first_attempt(first: Option<Attempt>, who: Attempt) -> Attempt
-    ensures { Some result ≡ first_of attempt_lt first (Some who) }
-{
-    match first {
-        Some(first) if first <= who => first,
-        _ => who,
     }
 }

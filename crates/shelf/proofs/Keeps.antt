@@ -16,12 +16,11 @@ use Rattle.deneva_base.specs.Rows.{Row, Rows}
 use Rattle.deneva_base.specs.Keys.{attempt_eq, loaded_version}
 use Rattle.protocol_rules.specs.History.{Ask, Prepare, History, Asked, Grant, Yea, yeas, ended, IsUnended}
 use Rattle.protocol_rules.specs.Latest.{row_for, writes_in}
-use Rattle.protocol_rules.specs.Leaving.{later, left_in}
+use Rattle.protocol_rules.specs.Leaving.{later, left_in, appends_in}
 use Rattle.deneva_base.proofs.Membership.{attempt_tells}
 use Rattle.row_store.specs.Stores.{Seen, version_at, row_in}
 use Rattle.row_store.specs.declared.versions.Version.{Version as StoredVersion}
 use Rattle.control_core.specs.Leaving.{IsLoadedStore, last}
-use Rattle.control_core.proofs.Lasts.{appends_in}
 use Rattle.shelf.specs.Seen.{Held}
 use Rattle.shelf.specs.Held.{nothing, with_key, with_rows, copies_of}
 use Rattle.shelf.specs.Offers.{offered}

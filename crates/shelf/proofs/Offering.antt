@@ -7,28 +7,29 @@ use Rattle.deneva_base.specs.declared.rows.Keyed.{Keyed}
 use Rattle.deneva_base.specs.Keys.{key_eq, number_lt}
 use Rattle.protocol_rules.specs.History.{Yea}
 use Rattle.protocol_rules.specs.Latest.{row_for, writes_in}
-use Rattle.protocol_rules.specs.Leaving.{later, left_in as rows_in_vote}
+use Rattle.protocol_rules.specs.Leaving.{later, left_in as rows_in_vote, appends_in}
 use Rattle.row_store.specs.declared.versions.Version.{Version as StoredVersion}
 use Rattle.row_store.specs.Stores.{newest}
-use Rattle.control_core.proofs.Lasts.{appends_in, left_is, row_for_both, later_twice}
+use Rattle.control_core.proofs.Lasts.{left_is, row_for_both, later_twice}
 use Rattle.shelf.specs.Offers.{offered}
 use Rattle.shelf.specs.Keeps.{version_of}
+
+-- a version that comes
+pub one_offered : (v : Option StoredVersion) (w : StoredVersion) → option_map version_of (newest v w) ≡ later (option_map version_of v) w.number (Some w.row)
+one_offered None w = refl
+one_offered (Some u) w = pick (number_lt u.number w.number)
+  where
+    pick : (b : Bool) → option_map version_of (Some (cond b w u)) ≡ cond b (Some (record { number = w.number; row = w.row })) (Some (version_of u))
+    pick true = refl
+    pick false = refl
 
 -- rows that come under a number
 pub offered_later : (n : Number) (rows : List Keyed) (key : Key) (v : Option StoredVersion) → option_map version_of (offered n rows key v) ≡ later (option_map version_of v) n (row_for key rows)
 offered_later n [] key v = refl
 offered_later n (r ∷ rows) key v = go (key_eq r.key key) (λ u. offered_later n rows key u)
   where
-    one : (v : Option StoredVersion) → option_map version_of (newest v (record { number = n; row = r.row })) ≡ later (option_map version_of v) n (Some r.row)
-    one None = refl
-    one (Some u) = pick (number_lt u.number n)
-      where
-        pick : (b : Bool) → option_map version_of (Some (cond b (record { number = n; row = r.row }) u)) ≡ cond b (Some (record { number = n; row = r.row })) (Some (version_of u))
-        pick true = refl
-        pick false = refl
-
     go : (b : Bool) → ((u : Option StoredVersion) → option_map version_of (offered n rows key u) ≡ later (option_map version_of u) n (row_for key rows)) → option_map version_of (offered n rows key (cond b (newest v (record { number = n; row = r.row })) v)) ≡ later (option_map version_of v) n (cond b (Some r.row) (row_for key rows))
-    go true rest = rest (newest v (record { number = n; row = r.row })) ∙ ap (λ x. later x n (row_for key rows)) (one v) ∙ later_twice (option_map version_of v) n (Some r.row) (row_for key rows)
+    go true rest = rest (newest v (record { number = n; row = r.row })) ∙ ap (λ x. later x n (row_for key rows)) (one_offered v (record { number = n; row = r.row })) ∙ later_twice (option_map version_of v) n (Some r.row) (row_for key rows)
     go false rest = rest v
 
 pub committed_version : (n : Number) (ys : List Yea) (who : Attempt) (key : Key) (v : Option StoredVersion) → option_map version_of (offered n (appends_in ys who) key (offered n (writes_in ys who) key v)) ≡ later (option_map version_of v) n (row_for key (rows_in_vote ys who))

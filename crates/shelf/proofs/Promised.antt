@@ -8,11 +8,11 @@ use Rattle.deneva_base.specs.Rows.{Rows}
 use Rattle.deneva_base.specs.Keys.{attempt_eq}
 use Rattle.protocol_rules.specs.History.{Ask, Prepare, Commit, Abort, History, Yea, yeas, ended, closed, IsUnended}
 use Rattle.protocol_rules.specs.Latest.{has_ended}
+use Rattle.protocol_rules.specs.Leaving.{appends_in}
 use Rattle.protocol_rules.specs.Rules.{Rule, Obeys}
 use Rattle.deneva_base.proofs.Membership.{attempt_tells}
 use Rattle.protocol_rules.proofs.Unended.{not_ended}
 use Rattle.protocol_rules.proofs.Sound.{sound}
-use Rattle.control_core.proofs.Lasts.{appends_in}
 use Rattle.shelf.specs.Keeps.{promised_in, Apart}
 
 pub unended_test : (h : History) (who : Attempt) → IsUnended h who → has_ended h who ≡ false

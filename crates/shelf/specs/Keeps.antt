@@ -7,10 +7,10 @@ use Rattle.deneva_base.specs.Lists.{IsIn}
 use Rattle.deneva_base.specs.Rows.{Row, Rows}
 use Rattle.protocol_rules.specs.History.{History, Asked, Grant, Yea, grants, waits, yeas, ended, IsUnended, WaitsNowhere}
 use Rattle.protocol_rules.specs.Latest.{Version, writes_in, has_ended}
+use Rattle.protocol_rules.specs.Leaving.{appends_in}
 use Rattle.row_store.specs.declared.versions.Version.{Version as StoredVersion}
 use Rattle.row_store.specs.Stores.{version_at}
 use Rattle.control_core.specs.Leaving.{last}
-use Rattle.control_core.proofs.Lasts.{appends_in}
 use Rattle.shelf.specs.declared.shelf.Shelf.{Shelf}
 use Rattle.shelf.specs.Held.{copies_of}
 use Rattle.shelf.specs.Shelves.{held}

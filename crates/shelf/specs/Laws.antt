@@ -18,7 +18,8 @@ use Rattle.protocol_rules.specs.Leaving.{later, left_in, rows_left}
 use Rattle.protocol_rules.specs.Rules.{Rule, Obeys}
 use Rattle.protocol_rules.specs.Wakes.{KeepsWakes}
 use Rattle.protocol_rules.specs.Windows.{KeepsWindows}
-use Rattle.row_store.specs.Stores.{Seen, version_at, has, row_in}
+use Rattle.row_store.specs.declared.versions.Version.{Version as StoredVersion}
+use Rattle.row_store.specs.Stores.{Seen, version_at, has, row_in, newest}
 use Rattle.control_core.specs.Leaving.{IsLoadedStore, last}
 use Rattle.shelf.specs.declared.shelf.Shelf.{Shelf}
 use Rattle.shelf.specs.Held.{copies_of}
@@ -87,6 +88,10 @@ CommitLeaves = (copied : Bool) (loaded : Rows) (h : History) (who : Attempt) (s 
 abbrev pub AbortLeaves : Type 0
 AbortLeaves = (copied : Bool) (loaded : Rows) (h : History) (who : Attempt) (s s' : Shelf) → KeepsRows copied loaded s h
     → Ends who None s s' → (key : Key) → option_map version_of (version_at s'.store key) ≡ last loaded h key
+
+-- a version that comes to a store counts as it does in a history
+abbrev pub OffersLater : Type 0
+OffersLater = (v : Option StoredVersion) (w : StoredVersion) → option_map version_of (newest v w) ≡ later (option_map version_of v) w.number (Some w.row)
 
 -- an access to a loaded key reads its latest version
 abbrev pub ReadsLatest : Type 0

@@ -1,5 +1,5 @@
 //! Laws of a shelf over histories.
-ghost use Rattle.shelf.specs.Laws.{FreshKeeps, GrantedKeeps, WaitingKeeps, NotedKeeps, RefusedKeeps, PromisedKeeps, NoKeeps, ReservedKeeps, CommitCloses, AbortCloses, EndedKeeps, ResumedKeeps, CommitLeaves, AbortLeaves, ReadsLatest, MayEnd, RowsLeft};
+ghost use Rattle.shelf.specs.Laws.{FreshKeeps, GrantedKeeps, WaitingKeeps, NotedKeeps, RefusedKeeps, PromisedKeeps, NoKeeps, ReservedKeeps, CommitCloses, AbortCloses, EndedKeeps, ResumedKeeps, CommitLeaves, AbortLeaves, OffersLater, ReadsLatest, MayEnd, RowsLeft};
 
 /// It has what the history gives: at first, after an access, after a vote, after an end, and if a call finds no memory.
 fn keeps_rows()
@@ -21,6 +21,7 @@ fn keeps_rows()
 fn has_rows()
     ensures commit { CommitLeaves }
     ensures abort { AbortLeaves }
+    ensures offer { OffersLater }
     ensures read { ReadsLatest }
     ensures end { MayEnd }
     ensures left { RowsLeft }

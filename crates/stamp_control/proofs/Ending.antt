@@ -9,11 +9,11 @@ use Rattle.deneva_base.specs.declared.answers.Vote.TheVariants.{Yes}
 use Rattle.protocol_rules.specs.Conditions.{MayPrepare, MayCommit, MayAbort, Distinct}
 use Rattle.protocol_rules.specs.History.{Prepare, Commit, Abort, History, Asked, waits, yeas, IsUnended}
 use Rattle.deneva_base.specs.Keys.{key_eq, number_lt}
-use Rattle.protocol_rules.specs.Latest.{Version, row_for, writes_in, latest, newer}
+use Rattle.protocol_rules.specs.Latest.{Version, row_for, writes_in, latest, newer, greater}
 use Rattle.deneva_base.specs.Lists.{IsIn}
 use Rattle.deneva_base.specs.Rows.{Row, Rows}
 use Rattle.protocol_rules.specs.Timestamp.{top_read}
-use Rattle.protocol_rules.specs.Versions.{version_of as written_as, written, start, greatest, later, below}
+use Rattle.protocol_rules.specs.Versions.{version_of as written_as, written, start, greatest, below}
 use Rattle.protocol_rules.proofs.Belows.{Listed}
 use Rattle.protocol_rules.proofs.Known.{Known}
 use Rattle.protocol_rules.proofs.Marks.{Marked}
@@ -127,19 +127,19 @@ some_is {A} x y e = ap get e
     get (Some z) = z
 
 -- what is picked and what is below, with one more version
-pub offered_below : (n : ℕ) (o : Option StoredVersion) (b : Version) (w : StoredVersion) → option_map version_of o ≡ Some b → option_map version_of (offer n o w) ≡ Some (cond (ltb w.number.n n) (later b (version_of w)) b)
+pub offered_below : (n : ℕ) (o : Option StoredVersion) (b : Version) (w : StoredVersion) → option_map version_of o ≡ Some b → option_map version_of (offer n o w) ≡ Some (cond (ltb w.number.n n) (greater b (version_of w)) b)
 offered_below n None b w e = absurd (cc (e))
-offered_below n (Some v) b w e = subst (λ (z : Version). option_map version_of (offer n (Some v) w) ≡ Some (cond (ltb w.number.n n) (later z (version_of w)) z)) (some_is (version_of v) b e) (go (ltb w.number.n n) (number_lt v.number w.number))
+offered_below n (Some v) b w e = subst (λ (z : Version). option_map version_of (offer n (Some v) w) ≡ Some (cond (ltb w.number.n n) (greater z (version_of w)) z)) (some_is (version_of v) b e) (go (ltb w.number.n n) (number_lt v.number w.number))
   where
     go : (c d : Bool) → option_map version_of (cond (c && d) (Some w) (Some v)) ≡ Some (cond c (cond d (version_of w) (version_of v)) (version_of v))
     go true true = refl
     go true false = refl
     go false d = refl
 
-pub below_more : (v : Version) (n : ℕ) (w : Version) (ws : List Version) → greatest v (filter (λ (x : Version). ltb x.number.n n) (w ∷ ws)) ≡ cond (ltb w.number.n n) (later (greatest v (filter (λ (x : Version). ltb x.number.n n) ws)) w) (greatest v (filter (λ (x : Version). ltb x.number.n n) ws))
+pub below_more : (v : Version) (n : ℕ) (w : Version) (ws : List Version) → greatest v (filter (λ (x : Version). ltb x.number.n n) (w ∷ ws)) ≡ cond (ltb w.number.n n) (greater (greatest v (filter (λ (x : Version). ltb x.number.n n) ws)) w) (greatest v (filter (λ (x : Version). ltb x.number.n n) ws))
 below_more v n w ws = go (ltb w.number.n n)
   where
-    go : (b : Bool) → greatest v (cond b (w ∷ filter (λ (x : Version). ltb x.number.n n) ws) (filter (λ (x : Version). ltb x.number.n n) ws)) ≡ cond b (later (greatest v (filter (λ (x : Version). ltb x.number.n n) ws)) w) (greatest v (filter (λ (x : Version). ltb x.number.n n) ws))
+    go : (b : Bool) → greatest v (cond b (w ∷ filter (λ (x : Version). ltb x.number.n n) ws) (filter (λ (x : Version). ltb x.number.n n) ws)) ≡ cond b (greater (greatest v (filter (λ (x : Version). ltb x.number.n n) ws)) w) (greatest v (filter (λ (x : Version). ltb x.number.n n) ws))
     go true = refl
     go false = refl
 
@@ -204,12 +204,12 @@ module _ (loaded : Rows) (h : History) (known : Known loaded h) (sound : Sound l
       apart n true l = absurd (true≢false (sym (above l) ∙ n))
       apart n false l = refl
 
-      go : (b : Bool) → any_above number.n (s'.accesses.requests a.key) ≡ b → option_map version_of (pick a.stamp (cond b (with_version (record { number = number; row = row }) (s.pasts a.key)) (s.pasts a.key)).versions) ≡ Some (cond (ltb number.n a.stamp) (later (below loaded h a.key a.stamp) (record { number = number; row = row })) (below loaded h a.key a.stamp))
+      go : (b : Bool) → any_above number.n (s'.accesses.requests a.key) ≡ b → option_map version_of (pick a.stamp (cond b (with_version (record { number = number; row = row }) (s.pasts a.key)) (s.pasts a.key)).versions) ≡ Some (cond (ltb number.n a.stamp) (greater (below loaded h a.key a.stamp) (record { number = number; row = row })) (below loaded h a.key a.stamp))
       go true f =
           ap (option_map version_of) (pick_more a.stamp None (s.pasts a.key).versions (made row ∷ []))
           ∙ offered_below a.stamp (pick a.stamp (s.pasts a.key).versions) (below loaded h a.key a.stamp) (made row) (t.waited a i)
       go false f =
-          t.waited a i ∙ sym (ap (λ b. Some (cond b (later (below loaded h a.key a.stamp) (record { number = number; row = row })) (below loaded h a.key a.stamp))) (apart f (ltb number.n a.stamp) refl))
+          t.waited a i ∙ sym (ap (λ b. Some (cond b (greater (below loaded h a.key a.stamp) (record { number = number; row = row })) (below loaded h a.key a.stamp))) (apart f (ltb number.n a.stamp) refl))
 
   kept : (k : Key) (v : StoredVersion) → IsIn v (s'.pasts k).versions → (r : Option Row) → row_for k ws ≡ r → (number_lt (newer (latest loaded h k) number r).number v.number ≡ false) × (v.number ≡ (newer (latest loaded h k) number r).number → version_of v ≡ newer (latest loaded h k) number r)
   kept k v i None none = let p = t.kept k v (subst (λ (q : Kept). IsIn v q.versions) (past_none k none) i) in (p.not_later, p.same)

@@ -1,5 +1,0 @@
-use Rattle.range_control.proofs.Answering.{fresh_tracks}
-use Rattle.range_control.proofs.ranges.RangesControl.begin.Goals as goal
-
-pub returns : goal.returns
-returns g c = record { stands = record { obeys = tt; tracks = fresh_tracks c.args.store c.new-table.result c.new-table.ensures c.requires.loaded } }
