@@ -1,4 +1,5 @@
 -- Attempts one after another, open transactions and the limit: a quiet run leaves nothing undecided.
+pub mod Counting
 pub mod Begun
 pub mod Ledgers
 pub mod Opens
@@ -6,4 +7,7 @@ pub mod Rooms
 pub mod Quits
 pub mod Limited
 pub mod LastTurns
+pub mod Said
+pub mod Sentences
+pub mod TurnsTold
 pub mod Ended

@@ -15,7 +15,7 @@ ghost use Rattle.txn_program.specs.Serial.{all_ids};
 ghost use Rattle.txn_program.specs.Valid.{IsValid};
 ghost use Rattle.txn_program.specs.declared.programs.Workload.{Workload};
 ghost use Rattle.server_core.specs.Aborts.{aborts_of};
-ghost use Rattle.server_core.specs.Account.{KeepsAccount};
+ghost use Rattle.server_core.specs.RunAccount.{RunAccount};
 ghost use Rattle.server_core.specs.IsSerial.{IsSerial, IsDecided, IsGivenUp};
 ghost use Rattle.server_core.specs.Limits.{Limits, is_of, count_entries, most_of, most_events};
 ghost use Rattle.server_core.specs.Participant.{node_rows};
@@ -58,7 +58,7 @@ pub fn runs_are_bounded()
 /// attempts of a transaction all but the last have ended everywhere, and the last has exactly where the transaction is
 /// decided or given up. A node with a transaction that is not begun has as many open ones as the limit says.
 pub fn runs_keep_account()
-    ensures law { (s : Setting) (H : List Entry) (flight : List Mail) → Valid s → Limits s → IsRun s H flight → KeepsAccount s H flight }
+    ensures law { (s : Setting) (H : List Entry) (flight : List Mail) → Valid s → Limits s → IsRun s H flight → RunAccount s H flight }
 {}
 
 /// All Asks of an attempt have one stamp, which is at least 1; those of different transactions differ, over all nodes.

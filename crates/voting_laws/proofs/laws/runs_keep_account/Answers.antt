@@ -1,8 +1,7 @@
 -- The laws are lemmas.
 use Rattle.voting_laws.proofs.numbers.Numbers.{run_good}
-use Rattle.voting_laws.proofs.account.Ledgers.{account}
-use Rattle.voting_laws.proofs.account.Limited.{open_count}
-use Rattle.voting_laws.proofs.account.LastTurns.{ended_over, over_ended}
+use Rattle.voting_laws.proofs.account.Sentences.{idle, asks, votes, closes}
+use Rattle.voting_laws.proofs.account.TurnsTold.{turns, room}
 use Rattle.voting_laws.proofs.laws.runs_keep_account.Goals as goal
 
 pub returns : goal.returns
@@ -10,8 +9,11 @@ returns c = record {
   law = λ s H flight v l run.
       let g = run_good s v l H flight run in
       record {
-        each = account s v H flight g;
-        last = λ x turn begun last. (ended_over s v H flight g x turn begun last, over_ended s v H flight g x turn begun last);
-        room = λ p x lt i e. open_count s v H flight g p lt x i e;
+        idle = λ who e. idle s v H flight g who e;
+        asks = λ who b p e. asks s v H flight g who b p e;
+        votes = λ who p e. votes s v H flight g who p e;
+        closes = λ who e n. closes s v H flight g who e;
+        turns = λ x. turns s v H flight g x;
+        room = λ p x i e. room s v H flight g p x i e;
       };
 }
