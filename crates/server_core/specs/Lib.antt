@@ -17,7 +17,6 @@ pub mod CalvinFits
 pub mod Fits
 pub mod VotingRuns
 pub mod Ends
-pub mod Account
 pub mod Limits
 pub mod RunAccount
 pub mod Proper
@@ -32,6 +31,7 @@ pub mod IsSerial
 pub mod ReportOrder
 pub mod Told
 pub mod VotingAtomic
+pub mod VotingStamps
 pub mod Atomic
 pub mod VotingNamed
 pub mod Named

@@ -1,5 +1,5 @@
 -- The account of a run under a voting protocol: what is in flight for each attempt, waits, or was handled at its home.
-use Rattle.std.specs.Prelude.{◌≡◌, ℕ, suc, ◌+◌, ◌<◌, ◌≤◌, List, [], ◌∷◌, ◌++◌, length, filter, Bool, true, false, cond, not, ◌&&◌, eqb}
+use Rattle.std.specs.Prelude.{◌≡◌, ℕ, suc, ◌+◌, ◌<◌, ◌≤◌, List, [], ◌∷◌, ◌++◌, length, filter, Bool, true, false, cond, not, ◌&&◌, ◌||◌, eqb, Option, Some, None}
 use Rattle.std.specs.List.{list_any, list_all, flat_map}
 use Rattle.deneva_base.specs.declared.numbers.TxnId.{TxnId}
 use Rattle.deneva_base.specs.declared.numbers.Attempt.{Attempt}
@@ -8,17 +8,20 @@ use Rattle.deneva_base.specs.Lists.{IsIn}
 use Rattle.protocol_rules.specs.History.{Asked, waits}
 use Rattle.txn_program.specs.Transactions.{numbers_below}
 use Rattle.server_core.specs.declared.messages.Msg.{Msg}
-use Rattle.server_core.specs.declared.messages.Msg.TheVariants.{Start, Ask, Granted, Refused}
+use Rattle.server_core.specs.declared.messages.Msg.TheVariants.{Start, Ask, Granted, Refused, Prepare, Yes, No, Commit, Abort, Done, Undone}
 use Rattle.server_core.specs.declared.messages.Mail.{Mail}
 use Rattle.server_core.specs.declared.messages.Entry.{Entry}
 use Rattle.server_core.specs.Setting.{Setting, home, homes, participants}
 use Rattle.server_core.specs.Participant.{calls}
 use Rattle.server_core.specs.Runs.{heard}
 use Rattle.server_core.specs.Counts.{all_said, count, count_msgs}
-use Rattle.server_core.specs.Ends.{attempt}
+use Rattle.server_core.specs.Ends.{attempt, done_turn, all_undone}
 use Rattle.server_core.specs.Limits.{is_of, sum_of}
-use Rattle.server_core.specs.Account.{starts_of, prepares_of, votes_of, ends_of, closes_of, flying, is_over}
 use Rattle.server_core.specs.Voting.{says, opening}
+
+abbrev pub starts_of : Attempt → Msg → Bool
+starts_of who (Start x) = attempt_eq x who
+starts_of who m = false
 
 abbrev pub starts_txn : TxnId → Msg → Bool
 starts_txn x (Start who) = id_eq who.txn x
@@ -32,6 +35,25 @@ abbrev pub answering_of : Attempt → Msg → Bool
 answering_of who (Granted x key row version bound) = attempt_eq x who
 answering_of who (Refused x key cause) = attempt_eq x who
 answering_of who m = false
+
+abbrev pub prepares_of : Attempt → Msg → Bool
+prepares_of who (Prepare x bound writes appends) = attempt_eq x who
+prepares_of who m = false
+
+abbrev pub votes_of : Attempt → ℕ → Msg → Bool
+votes_of who q (Yes x part lo hi) = attempt_eq x who && eqb part q
+votes_of who q (No x part cause) = attempt_eq x who && eqb part q
+votes_of who q m = false
+
+abbrev pub ends_of : Attempt → Msg → Bool
+ends_of who (Commit x number) = attempt_eq x who
+ends_of who (Abort x) = attempt_eq x who
+ends_of who m = false
+
+abbrev pub closes_of : Attempt → ℕ → Msg → Bool
+closes_of who q (Done x part) = attempt_eq x who && eqb part q
+closes_of who q (Undone x part) = attempt_eq x who && eqb part q
+closes_of who q m = false
 
 -- the mails of the opening, and all that the nodes said
 abbrev pub all_mails : Setting → List Entry → List Mail
@@ -48,6 +70,10 @@ said_to s H t = filter (λ q. list_any (λ x. t x.msg && eqb x.to q) (all_mails 
 -- how many mails in flight pass, to whatever node
 abbrev pub in_flight : List Mail → (Msg → Bool) → ℕ
 in_flight flight t = count (λ x. t x.msg) flight
+
+-- and to q
+abbrev pub flying : List Mail → ℕ → (Msg → Bool) → ℕ
+flying flight q t = count (λ x. t x.msg && eqb x.to q) flight
 
 -- how many accesses of the attempt are among those that wait, and how many wait at all partitions
 abbrev pub waiting_of : Attempt → List Asked → ℕ
@@ -75,6 +101,14 @@ has_replied s H who q = list_any (closes_of who q) (heard (home s who.txn) H)
 -- a Commit or an Abort of it was said, and each partition to which that was said has replied
 abbrev pub ended_everywhere : Setting → List Entry → Attempt → Bool
 ended_everywhere s H who = ending s H who && list_all (has_replied s H who) (said_to s H (ends_of who))
+
+abbrev pub some_of : Option Attempt → Bool
+some_of None = false
+some_of (Some who) = true
+
+-- the transaction is decided or given up: all Done of one of its attempts came, or all Undone of the last that it may have
+abbrev pub is_over : Setting → List Entry → TxnId → Bool
+is_over s H x = some_of (done_turn s H x s.attempts) || all_undone s H (attempt x s.attempts)
 
 -- an attempt of the transaction is begun, and it is neither decided nor given up
 abbrev pub is_open : Setting → List Entry → TxnId → Bool

@@ -1,4 +1,5 @@
 -- Attempts one after another, open transactions and the limit: a quiet run leaves nothing undecided.
+pub mod Words
 pub mod Counting
 pub mod Begun
 pub mod Ledgers

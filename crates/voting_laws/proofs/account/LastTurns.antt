@@ -15,7 +15,8 @@ use Rattle.server_core.specs.Proper.{Valid}
 use Rattle.server_core.specs.Runs.{heard}
 use Rattle.server_core.specs.Counts.{all_said}
 use Rattle.server_core.specs.Ends.{attempt, all_done, all_undone}
-use Rattle.server_core.specs.Account.{has_begun, has_ended, is_over}
+use Rattle.server_core.specs.RunAccount.{is_over}
+use Rattle.voting_laws.proofs.account.Words.{has_begun, has_ended}
 use Rattle.server_core.proofs.counts.Starts.{started_turn}
 use Rattle.server_core.proofs.values.Origins.{aborted_started}
 use Rattle.voting_laws.proofs.fits.Lands.{lands, handled_heard}

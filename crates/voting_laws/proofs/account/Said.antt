@@ -1,12 +1,11 @@
 -- What was said of an attempt: its Start, its Prepares and its ends, by what its home has handled.
-use Rattle.std.proofs.Common.{◌≡◌, ◌≢◌, ◌⊎◌, ℕ, suc, ◌+◌, ◌<◌, ◌≤◌, List, [], ◌∷◌, ◌++◌, length, Bool, true, false, cond, not, ◌&&◌, ◌||◌, eqb, refl, sym, ap, ◌∙◌, subst, subst₂, inl, inr, ⊎_elim, arith, true≢false}
+use Rattle.std.proofs.Common.{◌≡◌, ◌≢◌, ◌⊎◌, ℕ, suc, ◌+◌, ◌<◌, ◌≤◌, List, [], ◌∷◌, length, Bool, true, false, cond, ◌&&◌, ◌||◌, eqb, refl, sym, ap, ◌∙◌, subst, subst₂, inl, inr, ⊎_elim, arith, true≢false}
 use Rattle.std.specs.List.{list_any, flat_map}
-use Rattle.std.proofs.lemmas.Bool.Decides.{nat_tests, eqb_tells}
+use Rattle.std.proofs.lemmas.Bool.Decides.{nat_tests}
 use Rattle.deneva_base.specs.declared.numbers.TxnId.{TxnId}
 use Rattle.deneva_base.specs.declared.numbers.Attempt.{Attempt}
 use Rattle.deneva_base.specs.Lists.{IsIn}
-use Rattle.deneva_base.specs.Keys.{attempt_eq, id_eq}
-use Rattle.deneva_base.specs.Partitions.{partition_of}
+use Rattle.deneva_base.specs.Keys.{attempt_eq}
 use Rattle.deneva_base.proofs.Membership.{in_left, in_right, in_cases, in_filter, filter_in, any_at, any_found, and_parts, and_true, attempt_tells, attempt_decides}
 use Rattle.txn_program.specs.Transactions.{numbers_below}
 use Rattle.server_core.specs.declared.messages.Msg.{Msg}
@@ -19,21 +18,19 @@ use Rattle.server_core.specs.Coordinator.{asked_parts}
 use Rattle.server_core.specs.Voting.{says, opening}
 use Rattle.server_core.specs.Proper.{ProperMsg, Valid}
 use Rattle.server_core.specs.Runs.{heard}
-use Rattle.server_core.specs.Counts.{all_said, count}
-use Rattle.server_core.specs.Ends.{attempt}
-use Rattle.server_core.specs.Account.{starts_of, prepares_of, ends_of, has_begun}
-use Rattle.server_core.specs.RunAccount.{starts_txn, all_mails, was_said, said_to, begun, prepared, ending}
+use Rattle.server_core.specs.Counts.{all_said}
+use Rattle.voting_laws.proofs.account.Words.{has_begun}
+use Rattle.server_core.specs.RunAccount.{starts_of, prepares_of, ends_of, all_mails, said_to, begun, prepared, ending}
 use Rattle.server_core.proofs.counts.Conserved.{count_in, in_counted, handled}
 use Rattle.server_core.proofs.counts.Local.{sent_to}
 use Rattle.server_core.proofs.counts.Quiet.{is_prepare, is_end}
 use Rattle.server_core.proofs.counts.Prepares.{occurs, prepares_said}
 use Rattle.server_core.proofs.counts.Ends.{ends_said}
-use Rattle.server_core.proofs.lists.ListTests.{id_tells, id_self}
 use Rattle.server_core.proofs.lists.Parts.{in_below, part_below, parts_from, home_below}
 use Rattle.server_core.proofs.values.Closed.{in_flat, flat_in}
 use Rattle.server_core.proofs.values.Origins.{origin, proper_said}
 use Rattle.server_core.proofs.values.Values.{heard_mail}
-use Rattle.voting_laws.proofs.fits.Account.{Good, in_openings, start_looks, ends_once, all_granted, occurs_in, once}
+use Rattle.voting_laws.proofs.fits.Account.{Good, in_openings, ends_once, all_granted, occurs_in}
 use Rattle.voting_laws.proofs.fits.Lands.{lands, handled_heard}
 use Rattle.voting_laws.proofs.numbers.Events.{fit_of}
 use Rattle.voting_laws.proofs.account.Begun.{begun_cases, started_begun}

@@ -1,7 +1,7 @@
 -- What is in flight for one attempt, by what was said of it.
-use Rattle.std.proofs.Common.{◌≡◌, ◌≢◌, ◌⊎◌, ℕ, zero, suc, ◌+◌, ◌<◌, ◌≤◌, List, [], ◌∷◌, length, filter, slice_get, Bool, true, false, cond, not, ◌&&◌, eqb, refl, sym, ap, ◌∙◌, subst, inl, inr, ⊎_elim, arith, Option, Some, None, true≢false}
+use Rattle.std.proofs.Common.{◌≡◌, ◌≢◌, ℕ, zero, suc, ◌+◌, ◌<◌, ◌≤◌, List, [], ◌∷◌, length, slice_get, Bool, true, false, cond, not, ◌&&◌, eqb, refl, sym, ap, ◌∙◌, subst, inl, inr, ⊎_elim, arith, Option, Some, None, true≢false}
 use Rattle.std.specs.List.{list_any, list_all}
-use Rattle.std.proofs.lemmas.Bool.Decides.{nat_tests, eqb_tells}
+use Rattle.std.proofs.lemmas.Bool.Decides.{nat_tests}
 use Rattle.deneva_base.specs.declared.keys.Key.{Key}
 use Rattle.deneva_base.specs.declared.keys.Access.{Access}
 use Rattle.deneva_base.specs.declared.numbers.Attempt.{Attempt}
@@ -16,34 +16,30 @@ use Rattle.server_core.specs.declared.messages.Msg.TheVariants.{Start, Ask, Gran
 use Rattle.server_core.specs.declared.messages.Mail.{Mail}
 use Rattle.server_core.specs.declared.messages.Entry.{Entry}
 use Rattle.server_core.specs.Setting.{Setting, home, parts_of, participants}
-use Rattle.server_core.specs.Replies.{Ballot, grants_for, votes_for, refused_for, closes_for, started_for, all_voted, all_closed}
-use Rattle.server_core.specs.Coordinator.{asked_parts, told}
+use Rattle.server_core.specs.Replies.{Ballot, grants_for, votes_for, refused_for, started_for, all_voted}
+use Rattle.server_core.specs.Coordinator.{asked_parts}
 use Rattle.server_core.specs.Participant.{calls}
-use Rattle.server_core.specs.VotingFits.{HasVoted}
 use Rattle.server_core.specs.Proper.{Valid}
 use Rattle.server_core.specs.Runs.{heard}
-use Rattle.server_core.specs.Counts.{count, count_msgs}
+use Rattle.server_core.specs.Counts.{count_msgs}
 use Rattle.server_core.specs.Limits.{is_of, sum_of}
-use Rattle.server_core.specs.Account.{Accounts, starts_of, asks_of, answers_of, prepares_of, votes_of, ends_of, closes_of, flying, waiting_for, is_for, many}
-use Rattle.server_core.specs.RunAccount.{Idle, Asks, Votes, Closes, asking_of, answering_of, in_flight, waiting_of, waiting, said_to, begun, prepared, ending, has_replied, ended_everywhere}
+use Rattle.voting_laws.proofs.account.Words.{Accounts, asks_of, answers_of, waiting_for, is_for, many}
+use Rattle.server_core.specs.RunAccount.{starts_of, prepares_of, votes_of, ends_of, closes_of, flying, Idle, Asks, Votes, Closes, asking_of, answering_of, in_flight, waiting_of, waiting, said_to, begun, prepared, ending, has_replied, ended_everywhere}
 use Rattle.server_core.proofs.counts.Asks.{unstarted}
 use Rattle.server_core.proofs.counts.Conserved.{count_in}
 use Rattle.server_core.proofs.counts.Local.{sent_to}
-use Rattle.server_core.proofs.counts.Quiet.{is_close}
 use Rattle.server_core.proofs.counts.Prepares.{occurs, slice_some}
 use Rattle.server_core.proofs.counts.Ends.{off_if}
 use Rattle.server_core.proofs.counts.Starts.{started_heard}
 use Rattle.server_core.proofs.lists.Parts.{in_below, part_below}
 use Rattle.server_core.proofs.values.Called.{access_of, knows, waiting_in}
-use Rattle.server_core.proofs.values.Origins.{started_ids, aborted_started}
-use Rattle.server_core.proofs.values.Values.{find_msg}
-use Rattle.voting_laws.proofs.fits.Account.{Good, looks, start_looks, phase, fit_home, none_voted, started_with, unrefused_with, voted_in, no_vote_yet, prepares_once, occurs_below, occurs_filter, occurs_in, once, refused_started, closed_in}
+use Rattle.server_core.proofs.values.Origins.{started_ids}
+use Rattle.voting_laws.proofs.fits.Account.{Good, looks, start_looks, phase, none_voted, started_with, voted_in, prepares_once, occurs_below, occurs_filter, occurs_in, once, refused_started}
 use Rattle.voting_laws.proofs.fits.Heard.{votes_heard}
 use Rattle.voting_laws.proofs.fits.Joins.{no_participant}
-use Rattle.voting_laws.proofs.fits.Lands.{msg_counted}
 use Rattle.voting_laws.proofs.serial.SerialOutcomes.{told_some}
 use Rattle.voting_laws.proofs.account.Begun.{started_begun, begun_cases}
-use Rattle.voting_laws.proofs.account.Counting.{one_if, zero_if, sum_zero, sum_plus, sum_at, count_none, count_same, counted_any, spread, to_one, of_one, occurs_there, any_counted, bool_same}
+use Rattle.voting_laws.proofs.account.Counting.{one_if, zero_if, sum_zero, sum_plus, sum_at, count_none, count_same, counted_any, spread, to_one, of_one, occurs_there, bool_same}
 use Rattle.voting_laws.proofs.account.Ledgers.{account}
 use Rattle.voting_laws.proofs.account.Quits.{got_bound}
 use Rattle.voting_laws.proofs.account.Said.{begun_is, flies_begun, prepares_to, ends_to, prepared_got, unprepared, ending_to, to_ending, told_once, told_there}

@@ -1,25 +1,25 @@
 -- The begun attempts of a transaction, and the open transactions of a node, by what was said.
-use Rattle.std.proofs.Common.{◌≡◌, ◌≢◌, ◌⊎◌, ℕ, suc, ◌+◌, ◌<◌, ◌≤◌, List, [], ◌∷◌, length, filter, Bool, true, false, cond, not, ◌&&◌, eqb, refl, sym, ap, ◌∙◌, subst, inl, inr, ⊎_elim, arith, true≢false}
+use Rattle.std.proofs.Common.{◌≡◌, ◌≢◌, ℕ, suc, ◌+◌, ◌<◌, ◌≤◌, List, [], ◌∷◌, length, filter, Bool, true, false, cond, not, ◌&&◌, eqb, refl, sym, ap, ◌∙◌, subst, inl, inr, ⊎_elim, arith, true≢false}
 use Rattle.std.specs.List.{list_all}
 use Rattle.std.proofs.lemmas.Bool.Decides.{eqb_tells}
 use Rattle.deneva_base.specs.declared.numbers.TxnId.{TxnId}
 use Rattle.deneva_base.specs.declared.numbers.Attempt.{Attempt}
 use Rattle.deneva_base.specs.Lists.{IsIn}
-use Rattle.deneva_base.specs.Keys.{attempt_eq, id_eq}
+use Rattle.deneva_base.specs.Keys.{attempt_eq}
 use Rattle.deneva_base.proofs.Membership.{any_at, any_found, and_parts, and_true, attempt_decides}
 use Rattle.server_core.specs.declared.messages.Msg.{Msg}
 use Rattle.server_core.specs.declared.messages.Msg.TheVariants.{Start, Ask, Done, Undone}
 use Rattle.server_core.specs.declared.messages.Mail.{Mail}
 use Rattle.server_core.specs.declared.messages.Entry.{Entry}
 use Rattle.server_core.specs.Setting.{Setting, home, homes, participants}
-use Rattle.server_core.specs.Replies.{grants_for, votes_for, refused_for, closes_for, started_for, all_voted, all_closed}
+use Rattle.server_core.specs.Replies.{grants_for, votes_for, refused_for, closes_for, all_voted, all_closed}
 use Rattle.server_core.specs.Coordinator.{asked_parts, told}
 use Rattle.server_core.specs.Proper.{Valid}
 use Rattle.server_core.specs.Runs.{heard}
 use Rattle.server_core.specs.Counts.{count_msgs}
 use Rattle.server_core.specs.Ends.{attempt}
-use Rattle.server_core.specs.Account.{ends_of, closes_of, has_begun, is_begun, is_over}
-use Rattle.server_core.specs.RunAccount.{Turns, starts_txn, all_mails, was_said, said_to, begun, ending, has_replied, ended_everywhere, is_open}
+use Rattle.voting_laws.proofs.account.Words.{has_begun, is_begun}
+use Rattle.server_core.specs.RunAccount.{ends_of, closes_of, is_over, Turns, starts_txn, all_mails, was_said, said_to, begun, ending, has_replied, ended_everywhere, is_open}
 use Rattle.server_core.proofs.counts.Prepares.{occurs, slice_some}
 use Rattle.server_core.proofs.counts.Starts.{started_turn}
 use Rattle.server_core.proofs.lists.ListTests.{id_tells, id_self}
@@ -38,7 +38,7 @@ use Rattle.voting_laws.proofs.account.Limited.{open_count}
 use Rattle.voting_laws.proofs.account.Quits.{dones_close, undones_close, heard_undone}
 use Rattle.voting_laws.proofs.account.Rooms.{over_true}
 use Rattle.voting_laws.proofs.account.Said.{begun_is, begun_true, start_landed, ends_to, ending_to, to_ending, told_once, told_there}
-use Rattle.voting_laws.proofs.account.Sentences.{ledger_ends, settled, replied}
+use Rattle.voting_laws.proofs.account.Sentences.{ledger_ends, replied}
 
 close_counted : (who : Attempt) (q : ℕ) (ms : List Msg) → 1 ≤ count_msgs (closes_of who q) ms → IsIn q (closes_for who ms)
 close_counted who q ms h = let m = find_msg (closes_of who q) ms h in go m.0 m.1 m.2
