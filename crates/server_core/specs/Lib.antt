@@ -18,8 +18,8 @@ pub mod CalvinFits
 pub mod Fits
 pub mod VotingRuns
 pub mod Ends
-pub mod Account
 pub mod Limits
+pub mod RunAccount
 pub mod Proper
 pub mod Picks
 pub mod Aborts
@@ -33,6 +33,7 @@ pub mod IsSerial
 pub mod ReportOrder
 pub mod Told
 pub mod VotingAtomic
+pub mod VotingStamps
 pub mod Atomic
 pub mod VotingNamed
 pub mod Named

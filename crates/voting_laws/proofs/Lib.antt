@@ -5,4 +5,5 @@ pub mod serial
 pub mod named
 pub mod Wholes
 pub mod Voted
+pub mod Accounted
 pub mod NodeLaws

@@ -15,7 +15,7 @@ ghost use Rattle.txn_program.specs.Serial.{all_ids};
 ghost use Rattle.txn_program.specs.Valid.{IsValid};
 ghost use Rattle.txn_program.specs.declared.programs.Workload.{Workload};
 ghost use Rattle.server_core.specs.Aborts.{aborts_of};
-ghost use Rattle.server_core.specs.Account.{KeepsAccount};
+ghost use Rattle.server_core.specs.RunAccount.{RunAccount};
 ghost use Rattle.server_core.specs.IsSerial.{IsSerial, IsDecided, IsGivenUp};
 ghost use Rattle.server_core.specs.Limits.{Limits, is_of, count_entries, most_of, most_events};
 ghost use Rattle.server_core.specs.Participant.{node_rows};
@@ -31,6 +31,7 @@ ghost use Rattle.server_core.specs.VotingAtomic.{IsWhole};
 ghost use Rattle.server_core.specs.VotingAtomic.{CommitsAgree};
 ghost use Rattle.server_core.specs.VotingNamed.{IsNamed};
 ghost use Rattle.server_core.specs.VotingRuns.{IsRun, AllFitting, Small};
+ghost use Rattle.server_core.specs.VotingStamps.{StampsTell};
 ghost use Rattle.server_core.specs.declared.messages.Entry.{Entry};
 ghost use Rattle.server_core.specs.declared.messages.Mail.{Mail};
 ghost use Rattle.server_core.specs.declared.messages.Msg.TheVariants.{Ask, Abort};
@@ -52,20 +53,15 @@ pub fn runs_are_bounded()
     ensures small { (s : Setting) (H : List Entry) (flight : List Mail) → Valid s → Limits s → IsRun s H flight → Small H flight }
 {}
 
-/// In every run, for each attempt: for the key awaited there is one of the Ask in flight, the answer in flight, the access
-/// that waits, and none for any other key; then for each participant one of the Prepare in flight, the vote in flight, the
-/// vote handled; then for each partition told one of the end in flight, the reply in flight, the reply handled. Of the begun
-/// attempts of a transaction all but the last have ended everywhere, and the last has exactly where the transaction is
-/// decided or given up. A node with a transaction that is not begun has as many open ones as the limit says.
+/// In every run the account holds: what is in flight for each attempt, waits, or was handled at its home; the turns of the
+/// begun attempts of each transaction; and how many home transactions of a node are open.
 pub fn runs_keep_account()
-    ensures law { (s : Setting) (H : List Entry) (flight : List Mail) → Valid s → Limits s → IsRun s H flight → KeepsAccount s H flight }
+    ensures law { (s : Setting) (H : List Entry) (flight : List Mail) → Valid s → Limits s → IsRun s H flight → RunAccount s H flight }
 {}
 
 /// All Asks of an attempt have one stamp, which is at least 1; those of different transactions differ, over all nodes.
 pub fn stamps_tell()
-    ensures one { (s : Setting) (H : List Entry) (flight : List Mail) (who : Attempt) (p q m n : ℕ) (k l : Key) (a b : Mode) → Valid s → Limits s → IsRun s H flight → IsIn (Ask who m k a) (heard p H) → IsIn (Ask who n l b) (heard q H) → m ≡ n }
-    ensures positive { (s : Setting) (H : List Entry) (flight : List Mail) (who : Attempt) (p m : ℕ) (k : Key) (a : Mode) → Valid s → Limits s → IsRun s H flight → IsIn (Ask who m k a) (heard p H) → 1 ≤ m }
-    ensures apart { (s : Setting) (H : List Entry) (flight : List Mail) (x y : Attempt) (p q m n : ℕ) (k l : Key) (a b : Mode) → Valid s → Limits s → IsRun s H flight → IsIn (Ask x m k a) (heard p H) → IsIn (Ask y n l b) (heard q H) → x.txn ≢ y.txn → m ≢ n }
+    ensures law { (s : Setting) (H : List Entry) (flight : List Mail) → Valid s → Limits s → IsRun s H flight → StampsTell H }
 {}
 
 /// No two mails in flight are equal, so each delivery makes a run of a run, and so does any schedule. One that picks some

@@ -17,7 +17,8 @@ use Rattle.server_core.specs.VotingFits.{Suits, AllUndone}
 use Rattle.server_core.specs.Proper.{Valid}
 use Rattle.server_core.specs.Runs.{heard}
 use Rattle.server_core.specs.Ends.{attempt}
-use Rattle.server_core.specs.Account.{starts_of, has_begun}
+use Rattle.server_core.specs.RunAccount.{starts_of}
+use Rattle.voting_laws.proofs.account.Words.{has_begun}
 use Rattle.server_core.proofs.counts.Starts.{turn_bound}
 use Rattle.server_core.proofs.values.Origins.{aborted_started}
 use Rattle.server_core.proofs.values.EarlierTurns.{undone_before}

@@ -15,10 +15,12 @@ use Rattle.server_core.specs.Proper.{Valid}
 use Rattle.server_core.specs.Runs.{heard}
 use Rattle.server_core.specs.Counts.{all_said}
 use Rattle.server_core.specs.Ends.{attempt, all_done, all_undone}
-use Rattle.server_core.specs.Account.{has_begun, has_ended, is_over}
+use Rattle.server_core.specs.RunAccount.{is_over}
+use Rattle.voting_laws.proofs.account.Words.{has_begun, has_ended}
 use Rattle.server_core.proofs.counts.Starts.{started_turn}
 use Rattle.server_core.proofs.values.Origins.{aborted_started}
 use Rattle.voting_laws.proofs.fits.Lands.{lands, handled_heard}
+use Rattle.server_core.proofs.values.Closings.{Closed}
 use Rattle.server_core.proofs.values.EarlierTurns.{not_both, undone_before}
 use Rattle.voting_laws.proofs.fits.Account.{Good}
 use Rattle.voting_laws.proofs.account.Opens.{OverBy, over_by}
@@ -36,7 +38,7 @@ module _ (s : Setting) (v : Valid s) (H : List Entry) (flight : List Mail) (g : 
   again = record { from = p; to = p; msg = Start (attempt x (suc turn)) }
 
   -- the next turn was not said
-  unsaid : IsIn again (all_said (says s) p ms) → ⊥
+  pub unsaid : IsIn again (all_said (says s) p ms) → ⊥
   unsaid i = true≢false (sym (landed s H flight p (attempt x (suc turn)) refl (⊎_elim (λ f. inl f) (λ h. inr (handled_heard H again h)) (lands (says s) (opening s) H flight g.run p again i))) ∙ last)
 
   pub ended_over : has_ended s H (attempt x turn) ≡ true → is_over s H x ≡ true
@@ -83,3 +85,10 @@ module _ (s : Setting) (v : Valid s) (H : List Entry) (flight : List Mail) (g : 
       let o = over_by s p x ms (g.fit p) (true_over s v H flight g x e) in
       let is : o.who ≡ attempt x turn = λ j. record { txn = o.own j; turn = same_turn o j } in
       subst (λ y. has_ended s H y ≡ true) is (over_ends s v H flight g x o)
+
+  -- and it is the attempt that closed
+  pub over_closed : is_over s H x ≡ true → Closed s p (attempt x turn) ms
+  over_closed e =
+      let o = over_by s p x ms (g.fit p) (true_over s v H flight g x e) in
+      let is : o.who ≡ attempt x turn = λ j. record { txn = o.own j; turn = same_turn o j } in
+      subst (λ y. Closed s p y ms) is o.closed

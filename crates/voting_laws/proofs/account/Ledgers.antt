@@ -15,7 +15,7 @@ use Rattle.server_core.specs.Participant.{calls}
 use Rattle.server_core.specs.Proper.{Valid, keys_in}
 use Rattle.server_core.specs.Runs.{heard}
 use Rattle.server_core.specs.Counts.{count, count_msgs}
-use Rattle.server_core.specs.Account.{waiting_for, is_for, Accounts}
+use Rattle.voting_laws.proofs.account.Words.{waiting_for, is_for, Accounts}
 use Rattle.server_core.proofs.counts.Local.{sent_to}
 use Rattle.server_core.proofs.counts.Quiet.{is_ask, is_answer}
 use Rattle.voting_laws.proofs.fits.Heard.{key_in, keys_more, answers_heard}

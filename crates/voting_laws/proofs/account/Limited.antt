@@ -21,7 +21,8 @@ use Rattle.server_core.specs.Runs.{heard}
 use Rattle.server_core.specs.Counts.{all_said, count, count_msgs}
 use Rattle.server_core.specs.Limits.{sum_of}
 use Rattle.server_core.specs.Ends.{attempt}
-use Rattle.server_core.specs.Account.{is_begun, is_over, open_at}
+use Rattle.server_core.specs.RunAccount.{is_over}
+use Rattle.voting_laws.proofs.account.Words.{is_begun, open_at}
 use Rattle.server_core.proofs.counts.Conserved.{count_in}
 use Rattle.server_core.proofs.counts.Local.{sent_to}
 use Rattle.server_core.proofs.counts.Starts.{is_start, started_heard, firsts_said, started_first, ids_take}

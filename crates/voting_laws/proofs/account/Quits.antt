@@ -99,7 +99,7 @@ undones_close who q (Done x part ∷ ms) i = go (attempt_eq x who) (undones_clos
 undones_close who q (Start x ∷ ms) i = undones_close who q ms i
 undones_close who q (m ∷ ms) i = undones_close who q ms i
 
-got_bound : (s : Setting) (p : ℕ) (who : Attempt) (ms : List Msg) → AllFit s p ms → length (grants_for who ms) ≤ length (s.accesses who.txn)
+pub got_bound : (s : Setting) (p : ℕ) (who : Attempt) (ms : List Msg) → AllFit s p ms → length (grants_for who ms) ≤ length (s.accesses who.txn)
 got_bound s p who [] fit = omega arith
 got_bound s p who (Granted x k r n b ∷ ms) fit =
     ⊎_elim

@@ -17,7 +17,8 @@ use Rattle.server_core.specs.VotingFits.{AllFit, IsAborted, Decides}
 use Rattle.server_core.specs.Proper.{Valid}
 use Rattle.server_core.specs.Runs.{heard}
 use Rattle.server_core.specs.Ends.{attempt, at_home, dones_for, undones_for, all_done, all_undone, done_turn}
-use Rattle.server_core.specs.Account.{some_of, has_ended, is_over}
+use Rattle.server_core.specs.RunAccount.{some_of, is_over}
+use Rattle.voting_laws.proofs.account.Words.{has_ended}
 use Rattle.server_core.proofs.counts.Starts.{started_turn, turn_bound}
 use Rattle.server_core.proofs.values.Decisions.{aborted_more, decides_more}
 use Rattle.server_core.proofs.values.Origins.{started_ids, aborted_started}

@@ -68,7 +68,7 @@ pub occurs-append : (q : ℕ) (xs ys : List ℕ) → occurs q (xs ++ ys) ≡ occ
 occurs-append q [] ys = omega arith
 occurs-append q (x ∷ xs) ys = omega (arith, occurs-append q xs ys)
 
-occurs_below : (q n : ℕ) → (occurs q (numbers_below n) ≤ 1) × (n ≤ q → occurs q (numbers_below n) ≡ 0)
+pub occurs_below : (q n : ℕ) → (occurs q (numbers_below n) ≤ 1) × (n ≤ q → occurs q (numbers_below n) ≡ 0)
 occurs_below q zero = (omega arith, λ h. refl)
 occurs_below q (suc n) =
     let ih = occurs_below q n in
@@ -150,7 +150,7 @@ started_home s r who (Start x ∷ ms) fit ne =
 started_home s r who (Ask x st k m ∷ ms) fit ne = started_home s r who ms fit.1 ne
 started_home s r who (m ∷ ms) fit ne = started_home s r who ms fit.1 ne
 
-refused_started : (s : Setting) (r : ℕ) (who : Attempt) (ms : List Msg) → AllFit s r ms → refused_for who ms ≡ true → started_for who ms ≡ true
+pub refused_started : (s : Setting) (r : ℕ) (who : Attempt) (ms : List Msg) → AllFit s r ms → refused_for who ms ≡ true → started_for who ms ≡ true
 refused_started s r who [] fit e = absurd (true≢false (sym e))
 refused_started s r who (Refused x k c ∷ ms) fit e =
     ⊎_elim
@@ -187,7 +187,7 @@ keys_take key zero as' = omega arith
 keys_take key (suc n) [] = omega arith
 keys_take key (suc n) (a ∷ as') = omega (arith, keys_take key n as')
 
-occurs_filter : (q : ℕ) (p : ℕ → Bool) (xs : List ℕ) → occurs q (filter p xs) ≤ occurs q xs
+pub occurs_filter : (q : ℕ) (p : ℕ → Bool) (xs : List ℕ) → occurs q (filter p xs) ≤ occurs q xs
 occurs_filter q p [] = omega arith
 occurs_filter q p (x ∷ xs) = grind (arith, occurs_filter q p xs)
 
@@ -209,7 +209,7 @@ voted_in bs qs q e i = go (list_any (λ (b : Ballot). eqb b.part q) bs) refl
     go true f = refl
     go false f = absurd (true≢false (sym e ∙ not_all bs qs q i f))
 
-none_voted : (bs : List Ballot) (q : ℕ) (qs : List ℕ) → ((r : ℕ) → list_any (λ (b : Ballot). eqb b.part r) bs ≡ true → ⊥) → cond (all_voted bs qs) (occurs q qs) 0 ≡ 0
+pub none_voted : (bs : List Ballot) (q : ℕ) (qs : List ℕ) → ((r : ℕ) → list_any (λ (b : Ballot). eqb b.part r) bs ≡ true → ⊥) → cond (all_voted bs qs) (occurs q qs) 0 ≡ 0
 none_voted bs q [] no' = grind arith
 none_voted bs q (x ∷ qs) no' = let e : list_any (λ (b : Ballot). eqb b.part x) bs ≡ false = off_if (list_any (λ (b : Ballot). eqb b.part x) bs) (no' x) in rw e
 

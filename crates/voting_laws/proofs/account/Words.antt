@@ -1,14 +1,13 @@
--- The account of an attempt: what is in flight for it, waits, or was handled at its home.
-use Rattle.std.specs.Prelude.{◌≡◌, ℕ, suc, ◌+◌, ◌<◌, ◌≤◌, List, [], ◌∷◌, length, filter, slice_get, Bool, true, false, cond, not, ◌&&◌, ◌||◌, eqb, Option, Some, None}
+-- The ledger of an attempt: what is in flight for it, waits, or was handled at its home.
+use Rattle.std.specs.Prelude.{◌≡◌, ℕ, ◌+◌, ◌<◌, ◌≤◌, List, [], ◌∷◌, length, filter, slice_get, Bool, true, false, cond, not, ◌&&◌, ◌||◌, eqb, Option, Some, None}
 use Rattle.std.specs.List.{list_any}
 use Rattle.deneva_base.specs.declared.numbers.TxnId.{TxnId}
 use Rattle.deneva_base.specs.declared.keys.Key.{Key}
 use Rattle.deneva_base.specs.declared.numbers.Attempt.{Attempt}
 use Rattle.deneva_base.specs.Keys.{attempt_eq, key_eq}
-use Rattle.deneva_base.specs.Lists.{IsIn}
 use Rattle.protocol_rules.specs.History.{Asked, waits}
 use Rattle.server_core.specs.declared.messages.Msg.{Msg}
-use Rattle.server_core.specs.declared.messages.Msg.TheVariants.{Start, Ask, Granted, Refused, Prepare, Yes, No, Commit, Abort, Done, Undone}
+use Rattle.server_core.specs.declared.messages.Msg.TheVariants.{Ask, Granted, Refused}
 use Rattle.server_core.specs.declared.messages.Mail.{Mail}
 use Rattle.server_core.specs.declared.messages.Entry.{Entry}
 use Rattle.server_core.specs.Setting.{Setting, home, homes, participants}
@@ -19,12 +18,9 @@ use Rattle.server_core.specs.Coordinator.{asked_parts}
 use Rattle.server_core.specs.Participant.{calls}
 use Rattle.server_core.specs.VotingFits.{AllUndone}
 use Rattle.server_core.specs.Runs.{heard}
-use Rattle.server_core.specs.Counts.{count, count_msgs}
-use Rattle.server_core.specs.Ends.{attempt, done_turn, all_done, all_undone}
-
-abbrev pub starts_of : Attempt → Msg → Bool
-starts_of who (Start x) = attempt_eq x who
-starts_of who m = false
+use Rattle.server_core.specs.Counts.{count_msgs}
+use Rattle.server_core.specs.RunAccount.{starts_of, prepares_of, votes_of, ends_of, closes_of, flying, is_over}
+use Rattle.server_core.specs.Ends.{attempt, all_done, all_undone}
 
 abbrev pub asks_of : Attempt → Key → Msg → Bool
 asks_of who key (Ask x stamp k mode) = attempt_eq x who && key_eq k key
@@ -34,29 +30,6 @@ abbrev pub answers_of : Attempt → Key → Msg → Bool
 answers_of who key (Granted x k row version bound) = attempt_eq x who && key_eq k key
 answers_of who key (Refused x k cause) = attempt_eq x who && key_eq k key
 answers_of who key m = false
-
-abbrev pub prepares_of : Attempt → Msg → Bool
-prepares_of who (Prepare x bound writes appends) = attempt_eq x who
-prepares_of who m = false
-
-abbrev pub votes_of : Attempt → ℕ → Msg → Bool
-votes_of who q (Yes x part lo hi) = attempt_eq x who && eqb part q
-votes_of who q (No x part cause) = attempt_eq x who && eqb part q
-votes_of who q m = false
-
-abbrev pub ends_of : Attempt → Msg → Bool
-ends_of who (Commit x number) = attempt_eq x who
-ends_of who (Abort x) = attempt_eq x who
-ends_of who m = false
-
-abbrev pub closes_of : Attempt → ℕ → Msg → Bool
-closes_of who q (Done x part) = attempt_eq x who && eqb part q
-closes_of who q (Undone x part) = attempt_eq x who && eqb part q
-closes_of who q m = false
-
--- mails to q that pass
-abbrev pub flying : List Mail → ℕ → (Msg → Bool) → ℕ
-flying flight q t = count (λ x. t x.msg && eqb x.to q) flight
 
 -- how often an access waits
 abbrev pub waiting_for : Attempt → Key → List Asked → ℕ
@@ -97,23 +70,6 @@ has_ended s H who = all_done s H who || all_undone s H who
 abbrev pub is_begun : Setting → List Entry → List Mail → TxnId → Bool
 is_begun s H flight x = has_begun s H flight (attempt x 1)
 
-abbrev pub some_of : Option Attempt → Bool
-some_of None = false
-some_of (Some who) = true
-
--- the transaction is decided or given up: all Done of one of its attempts came, or all Undone of the last that it may have
-abbrev pub is_over : Setting → List Entry → TxnId → Bool
-is_over s H x = some_of (done_turn s H x s.attempts) || all_undone s H (attempt x s.attempts)
-
 -- the open transactions of the node: begun, and neither decided nor given up
 abbrev pub open_at : Setting → List Entry → List Mail → ℕ → List TxnId
 open_at s H flight p = filter (λ x. is_begun s H flight x && not (is_over s H x)) (homes s p)
-
--- the account of a run: of each attempt, and of the begun attempts of each transaction all but the last have ended
--- everywhere (`turns`), and the last has exactly where the transaction is decided or given up
-pub record KeepsAccount (s : Setting) (H : List Entry) (flight : List Mail) : Type 0 where
-  pub each : (who : Attempt) → Accounts s H flight who (heard (home s who.txn) H)
-  -- of a begun attempt whose next turn has not begun
-  pub last : (x : TxnId) (turn : ℕ) → has_begun s H flight (attempt x turn) ≡ true → has_begun s H flight (attempt x (suc turn)) ≡ false → (has_ended s H (attempt x turn) ≡ true → is_over s H x ≡ true) × (is_over s H x ≡ true → has_ended s H (attempt x turn) ≡ true)
-  -- a node with a transaction that is not begun has as many open ones as the limit says
-  pub room : (p : ℕ) (x : TxnId) → p < s.parts → IsIn x (homes s p) → is_begun s H flight x ≡ false → length (open_at s H flight p) ≡ s.limit
