@@ -108,8 +108,8 @@ pub fn calvin_quiet_runs_are_serial()
     ensures finished { (s : Setting) (H : List Entry) (x : TxnId) → Valid s → IsRun s H [] → IsIn x s.ids → FinishedOnce s H x }
 {}
 
-/// The outcome of the serial execution in the global order, which names no partition's reads, has the lines and the rows by
-/// which the laws of runs go: each transaction reads what those before it leave.
+/// The outcome of the serial execution in the global order has the lines and the rows in whose words the other laws speak:
+/// those of the transactions one after another, each reading what the ones before it leave.
 pub fn global_order_is_serial()
     ensures lines { (c : Config) (w : Workload) → IsConfig c → IsValid w → c.protocol ≡ Calvin → (in_global_order c.parts w).decided ≡ serial_lines (setting c w) (setting c w).loaded (order (setting c w)) }
     ensures rows { (c : Config) (w : Workload) (key : Key) → IsConfig c → IsValid w → c.protocol ≡ Calvin → row_of (in_global_order c.parts w).rows key ≡ serial_after (setting c w) (setting c w).loaded (order (setting c w)) key }

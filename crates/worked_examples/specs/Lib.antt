@@ -1,3 +1,4 @@
 pub mod Played
 pub mod Reports
 pub mod Workloads
+pub mod TwoEpochs

@@ -94,3 +94,19 @@ trimmed_read =
 
 abbrev pub blind_writes : Workload
 blind_writes = workload (loads 1 (codes "a") ∷ loads 9 (codes "b") ∷ []) (txn (reads 9 ∷ puts 1 (codes "x") ∷ []) ∷ txn (puts 1 (codes "y") ∷ []) ∷ [])
+
+-- nine transactions whose home is partition 1, so the last is in a second epoch; the first takes part at both partitions, and
+-- the others read what it updates
+abbrev pub two_epochs : Workload
+two_epochs =
+    workload (loads 1 (codes "a") ∷ loads 8 (codes "b") ∷ [])
+    (txn (updates 1 (codes "x") ∷ reads 8 ∷ [])
+    ∷ txn (reads 1 ∷ [])
+    ∷ txn (reads 1 ∷ [])
+    ∷ txn (reads 1 ∷ [])
+    ∷ txn (reads 1 ∷ [])
+    ∷ txn (reads 1 ∷ [])
+    ∷ txn (reads 1 ∷ [])
+    ∷ txn (reads 1 ∷ [])
+    ∷ txn (reads 1 ∷ [])
+    ∷ [])

@@ -10,6 +10,7 @@ mod ranges;
 mod rules;
 mod skews;
 mod stamps;
+mod two_epochs;
 mod words;
 
 pub use blind::writes_that_read_nothing;
@@ -26,4 +27,5 @@ pub use rules::{
 };
 pub use skews::write_skew;
 pub use stamps::{a_trimmed_version, an_old_read, an_update_too_late};
+pub use two_epochs::calvin_premises_can_be_met;
 pub use words::words_of_seeds;
