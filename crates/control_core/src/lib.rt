@@ -5,5 +5,5 @@ mod control;
 mod laws;
 
 pub use control::{Chosen, Control, PrepareNoMemory};
-pub use laws::last_versions_agree;
 pub use deneva_base::{Answer, Vote, Wake, Woken};
+pub use laws::last_versions_agree;

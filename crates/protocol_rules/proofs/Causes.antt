@@ -237,7 +237,7 @@ module _ (h : History) (who : Attempt) where
       let e = and_parts (lists y.writes g.key) (ltb g.version.n y.hi) d.1 in
       (i, j, (attempt_decides g.who who).0 a.0, (reading_decides g.mode).0 b.0, (λ s. true≢false (sym c.0 ∙ ap not ((attempt_decides y.who who).1 s))), is_unended h y.who d.0, e.0, ltb-true g.version.n y.hi e.1)
 
-  told_prepared : (g : Grant) (y : Yea) → LimitsPrepared h who g y → limits_prepared h who g y ≡ true
+  pub told_prepared : (g : Grant) (y : Yea) → LimitsPrepared h who g y → limits_prepared h who g y ≡ true
   told_prepared g y l =
       and_true (attempt_eq g.who who) (reads g.mode && (not (attempt_eq y.who who) && (not (has_ended h y.who) && (lists y.writes g.key && ltb g.version.n y.hi)))) ((attempt_decides g.who who).1 l.2)
       (and_true (reads g.mode) (not (attempt_eq y.who who) && (not (has_ended h y.who) && (lists y.writes g.key && ltb g.version.n y.hi))) ((reading_decides g.mode).1 l.3)
@@ -252,7 +252,7 @@ module _ (h : History) (who : Attempt) where
       let c = and_parts (wrote h d.who g.key) (number_lt g.version d.number) b.1 in
       (i, j, (attempt_decides g.who who).0 a.0, (reading_decides g.mode).0 b.0, c.0, (number_decides g.version d.number).0 c.1)
 
-  told_committed : (g : Grant) (d : Decided) → LimitsCommitted h who g d → limits_committed h who g d ≡ true
+  pub told_committed : (g : Grant) (d : Decided) → LimitsCommitted h who g d → limits_committed h who g d ≡ true
   told_committed g d l =
       and_true (attempt_eq g.who who) (reads g.mode && (wrote h d.who g.key && number_lt g.version d.number)) ((attempt_decides g.who who).1 l.2)
       (and_true (reads g.mode) (wrote h d.who g.key && number_lt g.version d.number) ((reading_decides g.mode).1 l.3)

@@ -83,8 +83,7 @@ least_most f (x ∷ xs) = omega (arith, least_most f xs)
 pub greatest_if : {A : Type 0} (p : A → Bool) (f : A → ℕ) (xs : List A) → 0 < greatest_by (λ x. cond (p x) (f x) 0) xs → IsGreatest f (λ x. IsIn x xs × (p x ≡ true)) (greatest_by (λ x. cond (p x) (f x) 0) xs)
 greatest_if {A} p f xs pos =
     let m = greatest_at (λ x. cond (p x) (f x) 0) xs pos in
-    let t : p m.0 ≡ true = passed m.0 (p m.0) refl (omega (arith, pos, m.2)) in
-    (
+    let t : p m.0 ≡ true = passed m.0 (p m.0) refl (omega (arith, pos, m.2)) in (
       (m.0, (m.1, t), ap (λ b. cond b (f m.0) 0) (sym t) ∙ m.2),
       (λ x i. omega (arith, top_by (λ z. cond (p z) (f z) 0) x xs i.0, ap (λ b. cond b (f x) 0) i.1)),
     )

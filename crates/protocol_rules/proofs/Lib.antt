@@ -37,3 +37,4 @@ pub mod Leasts
 pub mod Causes
 pub mod Limits
 pub mod Greatest
+pub mod Ends

@@ -24,3 +24,4 @@ pub mod Served
 pub mod Protocols
 pub mod Leaving
 pub mod Causes
+pub mod Ends

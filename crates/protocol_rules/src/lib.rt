@@ -11,5 +11,5 @@ pub use laws::{
 };
 pub use named::{
     maat_names_its_ends, mvcc_names_the_greatest, no_wait_names_the_least,
-    timestamp_names_the_greatest, wait_die_names_the_least,
+    timestamp_names_the_greatest, wait_die_names_the_least, windows_have_their_ends,
 };

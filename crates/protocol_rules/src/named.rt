@@ -1,7 +1,7 @@
 //! What a refusal and a No name, whatever the history is.
 ghost use Rattle.std.specs.Prelude.{◌≡◌, ◌<◌, ◌≤◌, ◌^◌, ℕ, List};
 ghost use Rattle.deneva_base.specs.declared.answers.Answer.TheVariants.{Refused};
-ghost use Rattle.deneva_base.specs.declared.answers.Vote.TheVariants.{No};
+ghost use Rattle.deneva_base.specs.declared.answers.Vote.TheVariants.{Yes, No};
 ghost use Rattle.deneva_base.specs.declared.causes.Bound.{Bound};
 ghost use Rattle.deneva_base.specs.declared.causes.Cause.TheVariants.{Held, Younger, Written, ReadLater, EmptyRange, Trimmed};
 ghost use Rattle.deneva_base.specs.declared.keys.Key.{Key};
@@ -12,11 +12,14 @@ ghost use Rattle.deneva_base.specs.Keys.{attempt_lt};
 ghost use Rattle.deneva_base.specs.Rows.{Rows};
 ghost use Rattle.protocol_rules.specs.Causes.{Bars, BarsFirst, ElderBarsFirst, WrittenAbove, ReadAbove, VersionReadAbove, KeptAbove, GivesHigh, NamesEnds};
 ghost use Rattle.protocol_rules.specs.Conditions.{MayPrepare};
+ghost use Rattle.protocol_rules.specs.Ends.{IsLockWindow, IsRange};
 ghost use Rattle.protocol_rules.specs.History.{History, Grant};
 ghost use Rattle.protocol_rules.specs.Least.{IsLeast};
+ghost use Rattle.protocol_rules.specs.Locks.{lock_vote};
 ghost use Rattle.protocol_rules.specs.Maat.{maat};
 ghost use Rattle.protocol_rules.specs.Mvcc.{mvcc};
 ghost use Rattle.protocol_rules.specs.NoWait.{no_wait};
+ghost use Rattle.protocol_rules.specs.Ranged.{low, high};
 ghost use Rattle.protocol_rules.specs.Rules.{Obeys};
 ghost use Rattle.protocol_rules.specs.Timestamp.{timestamp};
 ghost use Rattle.protocol_rules.specs.Versions.{below};
@@ -52,4 +55,11 @@ pub fn mvcc_names_the_greatest()
 pub fn maat_names_its_ends()
     ensures ends { (span : ℕ) (loaded : Rows) (h : History) (who : Attempt) (bound : Bound) (writes appends : List Keyed) (lo : ℕ) (lo_key : Key) (hi : ℕ) (hi_by : Attempt) → (maat span loaded).vote h who bound writes appends ≡ No (EmptyRange lo lo_key hi hi_by) → NamesEnds h who bound writes lo lo_key hi hi_by }
     ensures limited { (span : ℕ) (loaded : Rows) (h : History) (who : Attempt) (bound : Bound) (writes appends : List Keyed) (lo : ℕ) (lo_key : Key) (hi : ℕ) (hi_by : Attempt) → span ≤ 2 ^ 30 → Obeys loaded (maat span loaded) h → MayPrepare h who bound writes appends → (maat span loaded).vote h who bound writes appends ≡ No (EmptyRange lo lo_key hi hi_by) → IsLeast attempt_lt (GivesHigh h who hi) hi_by }
+{}
+
+/// The window of a lock vote begins one past the greatest number of a committed attempt that the attempt met; that of MAAT
+/// lies between the greatest of its lower ends and the least of its upper ones.
+pub fn windows_have_their_ends()
+    ensures locks { (h : History) (who : Attempt) (lo hi : ℕ) → lock_vote h who ≡ Yes lo hi → IsLockWindow h who lo hi }
+    ensures maat { (h : History) (who : Attempt) (bound : Bound) (writes : List Keyed) → IsRange h who bound writes (low h who bound writes) (high h who) }
 {}

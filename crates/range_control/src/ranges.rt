@@ -14,8 +14,8 @@ use deneva_base::{
 };
 use row_store::Store;
 
-/// MAAT, with windows of at most `SPAN` numbers. It is a control for the span that is named below, which lies from 1 to
-/// 2^62: no window is empty, and none passes the greatest number.
+/// MAAT, with windows of at most `SPAN` numbers. It is a control for the span named below, which lies from 1 to 2^62: so no
+/// window is empty, and none has an end that does not fit.
 #[derive(Drop)]
 pub struct Ranges<const SPAN: u64> {
     table: Table,

@@ -1,9 +1,9 @@
 -- Lists, and how many accesses wait.
-use Rattle.std.proofs.Common.{◌≡◌, ℕ, ◌+◌, ◌≤◌, List, [], ◌∷◌, ◌++◌, map, filter, length, Bool, true, false, not, cond, refl, sym, ap, inl, inr, arith, true≢false}
+use Rattle.std.proofs.Common.{◌≡◌, ◌+◌, ◌≤◌, List, [], ◌∷◌, ◌++◌, map, filter, length, Bool, true, false, not, cond, refl, sym, ap, inl, inr, arith, true≢false}
 use Rattle.deneva_base.specs.declared.answers.Answer.{Answer}
 use Rattle.deneva_base.specs.declared.answers.Answer.TheVariants.{Granted, Waits, Refused}
 use Rattle.deneva_base.specs.Lists.{IsIn, insert, sort}
-use Rattle.protocol_rules.specs.History.{Ask, Prepare, Commit, Abort, History, Asked, waits, left_waiting, is_woken}
+use Rattle.protocol_rules.specs.History.{Ask, Prepare, Commit, Abort, History, waits, left_waiting, is_woken}
 
 pub map_two : {A B C : Type 0} (f : B → C) (g : A → B) (xs : List A) → map f (map g xs) ≡ map (λ x. f (g x)) xs
 map_two f g [] = refl
