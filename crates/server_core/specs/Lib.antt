@@ -19,6 +19,7 @@ pub mod VotingRuns
 pub mod Ends
 pub mod Limits
 pub mod RunAccount
+pub mod AbortsListed
 pub mod Proper
 pub mod Picks
 pub mod Aborts
