@@ -16,6 +16,7 @@ ghost use Rattle.server_core.specs.Fits.{AllFitting};
 ghost use Rattle.server_core.specs.IsSerial.{IsSerial};
 ghost use Rattle.server_core.specs.Limits.{is_of, count_entries, most_of};
 ghost use Rattle.server_core.specs.Named.{AllNamed};
+ghost use Rattle.server_core.specs.NextHome.{BeginsNext};
 ghost use Rattle.server_core.specs.Participant.{node_rows};
 ghost use Rattle.server_core.specs.Outcome.{outcome};
 ghost use Rattle.server_core.specs.Picks.{most_entries, picked};
@@ -51,12 +52,14 @@ pub fn voting_runs_are_right()
     ensures rows { (c : Config) (w : Workload) (H : List Entry) (key : Key) → IsConfig c → IsValid w → IsVoting c.protocol → IsQuiet c w H → node_rows (setting c w) (partition_of key c.parts) (heard (partition_of key c.parts) H) key ≡ row_of (outcome c w H).rows key }
 {}
 
-/// In every run the account of each attempt holds: what is in flight for it, waits, or was handled. An attempt with a
-/// accesses and m participants has at most 1 + 2a + 4m entries, and the numbers of the run stay below 2^48. The Commits of
-/// a transaction are of one attempt and one number, in the windows voted; all Asks of an attempt have one stamp, and those
-/// of different transactions have different ones.
+/// In every run the account of each attempt holds: what is in flight for it, waits, or was handled. The next home
+/// transaction that a node begins is the first in file order of which no attempt is begun. An attempt with a accesses and m
+/// participants has at most 1 + 2a + 4m entries, and the numbers of the run stay below 2^48. The Commits of a transaction
+/// are of one attempt and one number, in the windows voted; all Asks of an attempt have one stamp, and those of different
+/// transactions have different ones.
 pub fn voting_runs_keep_account()
     ensures account { (c : Config) (w : Workload) (H : List Entry) (flight : List Mail) → IsConfig c → IsValid w → IsVoting c.protocol → IsRun c w H flight → RunAccount (setting c w) H flight }
+    ensures next { (c : Config) (w : Workload) (H : List Entry) (flight : List Mail) → IsConfig c → IsValid w → IsVoting c.protocol → IsRun c w H flight → BeginsNext (setting c w) H }
     ensures entries { (c : Config) (w : Workload) (H : List Entry) (flight : List Mail) (who : Attempt) → IsConfig c → IsValid w → IsVoting c.protocol → IsRun c w H flight → count_entries (λ e. is_of who e.msg) H ≤ most_of (setting c w) who.txn }
     ensures small { (c : Config) (w : Workload) (H : List Entry) (flight : List Mail) → IsConfig c → IsValid w → IsVoting c.protocol → IsRun c w H flight → Small H flight }
     ensures commits { (c : Config) (w : Workload) (H : List Entry) (flight : List Mail) → IsConfig c → IsValid w → IsVoting c.protocol → IsRun c w H flight → CommitsAgree (setting c w) H }
