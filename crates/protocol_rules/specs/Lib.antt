@@ -21,4 +21,5 @@ pub mod Growth
 pub mod Naming
 pub mod Served
 pub mod Protocols
+pub mod WaitsOf
 pub mod Leaving

@@ -3,8 +3,10 @@
 #![tactic(auto)]
 
 mod laws;
+mod waits_laws;
 
 pub use laws::{
     maat_laws, mvcc_laws, no_wait_laws, protocols_are_served, rules_serve, timestamp_laws,
     wait_die_laws,
 };
+pub use waits_laws::{mvcc_reads, protocols_wait};
