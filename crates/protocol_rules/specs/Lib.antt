@@ -22,6 +22,7 @@ pub mod Growth
 pub mod Naming
 pub mod Served
 pub mod Protocols
+pub mod WaitsOf
 pub mod Leaving
 pub mod Causes
 pub mod Ends

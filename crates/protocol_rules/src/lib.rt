@@ -4,6 +4,7 @@
 
 mod laws;
 mod named;
+mod waits_laws;
 
 pub use laws::{
     committed_writes_agree, maat_laws, mvcc_laws, no_wait_laws, protocols_are_served, rules_serve,
@@ -13,3 +14,4 @@ pub use named::{
     maat_names_its_ends, mvcc_names_the_greatest, no_wait_names_the_least,
     timestamp_names_the_greatest, wait_die_names_the_least, windows_have_their_ends,
 };
+pub use waits_laws::{mvcc_reads, protocols_wait};

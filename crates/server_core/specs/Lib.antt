@@ -20,6 +20,8 @@ pub mod VotingRuns
 pub mod Ends
 pub mod Limits
 pub mod RunAccount
+pub mod AbortsListed
+pub mod NextHome
 pub mod Proper
 pub mod Picks
 pub mod Aborts

@@ -1,5 +1,5 @@
 -- The account of a run, and its stamps.
-use Rattle.std.proofs.Common.{List}
+use Rattle.std.proofs.Common.{List, sym, subst}
 use Rattle.deneva_base.specs.declared.config.Config.{Config}
 use Rattle.txn_program.specs.Valid.{IsValid}
 use Rattle.txn_program.specs.declared.programs.Workload.{Workload}
@@ -7,7 +7,9 @@ use Rattle.protocol_rules.proofs.Voting.{choice}
 use Rattle.protocol_rules.specs.Protocols.{IsVoting}
 use Rattle.server_core.proofs.configured.Limiteds.{limits}
 use Rattle.server_core.proofs.configured.ValidSettings.{valid}
+use Rattle.server_core.specs.AbortsListed.{ListsAborts}
 use Rattle.server_core.specs.Configs.{IsConfig}
+use Rattle.server_core.specs.Outcome.{outcome}
 use Rattle.server_core.specs.Proper.{Valid}
 use Rattle.server_core.specs.RunAccount.{RunAccount}
 use Rattle.server_core.specs.Says.{IsRun}
@@ -15,7 +17,9 @@ use Rattle.server_core.specs.Setting.{Setting, setting}
 use Rattle.server_core.specs.VotingStamps.{StampsTell}
 use Rattle.server_core.specs.declared.messages.Entry.{Entry}
 use Rattle.server_core.specs.declared.messages.Mail.{Mail}
-use Rattle.voting_laws.proofs.Voted.{voting_run}
+use Rattle.server_core.specs.declared.outcomes.Outcome.{Outcome}
+use Rattle.voting_laws.proofs.Voted.{voting_run, outcome_is}
+use Rattle.voting_laws.proofs.named.OneLine.{lists_aborts}
 use Rattle.voting_laws.proofs.account.Sentences.{idle, asks, votes, closes}
 use Rattle.voting_laws.proofs.account.TurnsTold.{turns, room}
 use Rattle.voting_laws.proofs.fits.Account.{Good}
@@ -45,3 +49,8 @@ good_run c w k d votes H flight run = let o = choice c.protocol votes in run_goo
 
 pub run_accounted : (c : Config) (w : Workload) (k : IsConfig c) (d : IsValid w) (votes : IsVoting c.protocol) (H : List Entry) (flight : List Mail) → IsRun c w H flight → RunAccount (setting c w) H flight
 run_accounted c w k d votes H flight run = accounted (setting c w) (valid c w k d votes) H flight (good_run c w k d votes H flight run)
+
+pub listed : (c : Config) (w : Workload) (k : IsConfig c) (d : IsValid w) (votes : IsVoting c.protocol) (H : List Entry) (flight : List Mail) → IsRun c w H flight → ListsAborts (setting c w) H (outcome c w H).aborts
+listed c w k d votes H flight run =
+    let o = choice c.protocol votes in
+    subst (λ (z : Outcome). ListsAborts (setting c w) H z.aborts) (sym (outcome_is c w o.0 o.1 H)) (lists_aborts (setting c w) (valid c w k d votes) H flight (good_run c w k d votes H flight run))

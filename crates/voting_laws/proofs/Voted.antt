@@ -63,7 +63,7 @@ module _ (c : Config) (w : Workload) (o : Chosen) (is : chosen c.protocol ≡ So
   pub voting_run : (H : List Entry) (flight : List Mail) → IsRun c w H flight → voting.IsRun s H flight
   voting_run H flight run = subst (λ (f : Family). Reaches (f.says s) (f.opening s) H flight) kin run
 
-  outcome_is : (H : List Entry) → outcome c w H ≡ outcome_with c w (sort_lines (lines s H)) (giveups_of s H) (aborts_of s H)
+  pub outcome_is : (H : List Entry) → outcome c w H ≡ outcome_with c w (sort_lines (lines s H)) (giveups_of s H) (aborts_of s H)
   outcome_is H = ap (λ f. outcome_in f c w H) kin
 
   module _ (v : Valid s) (lim : Limits s) where

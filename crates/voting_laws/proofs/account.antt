@@ -11,4 +11,5 @@ pub mod LastTurns
 pub mod Said
 pub mod Sentences
 pub mod TurnsTold
+pub mod NextHomes
 pub mod Ended

@@ -1,3 +1,4 @@
--- Each abort line names what the rule found, and each aborted attempt has a line.
+-- Each abort line names what the rule found, and each aborted attempt has exactly one.
 pub mod Names
 pub mod Listings
+pub mod OneLine

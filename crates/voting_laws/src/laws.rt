@@ -15,6 +15,7 @@ ghost use Rattle.txn_program.specs.Serial.{all_ids};
 ghost use Rattle.txn_program.specs.Valid.{IsValid};
 ghost use Rattle.txn_program.specs.declared.programs.Workload.{Workload};
 ghost use Rattle.server_core.specs.Aborts.{aborts_of};
+ghost use Rattle.server_core.specs.AbortsListed.{ListsAborts};
 ghost use Rattle.server_core.specs.RunAccount.{RunAccount};
 ghost use Rattle.server_core.specs.IsSerial.{IsSerial, IsDecided, IsGivenUp};
 ghost use Rattle.server_core.specs.Limits.{Limits, is_of, count_entries, most_of, most_events};
@@ -83,10 +84,11 @@ pub fn commits_are_atomic()
     ensures quiet { (s : Setting) (H : List Entry) (x : TxnId) → Valid s → Limits s → IsRun s H [] → IsWhole s H x }
 {}
 
-/// In every run each abort line names what the rule found there, and each attempt that was aborted has one.
+/// In every run each abort line names what the rule found there; each attempt of which an Abort was said has exactly one
+/// line, and no other has any.
 pub fn aborts_are_named()
     ensures law { (s : Setting) (H : List Entry) (flight : List Mail) (l : AbortLine) → Valid s → Limits s → Naming s.rule → IsRun s H flight → IsIn l (aborts_of s H) → IsNamed s H l }
-    ensures listed { (s : Setting) (H : List Entry) (flight : List Mail) (who : Attempt) (p : ℕ) → Valid s → Limits s → IsRun s H flight → IsIn (Abort who) (heard p H) → (l : AbortLine) × IsIn l (aborts_of s H) × (l.who ≡ who) }
+    ensures listed { (s : Setting) (H : List Entry) (flight : List Mail) → Valid s → Limits s → IsRun s H flight → ListsAborts s H (aborts_of s H) }
 {}
 
 /// In a quiet run of a rule with one of the waits laws each transaction is decided or given up; in no run is one both.

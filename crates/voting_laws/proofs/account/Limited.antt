@@ -90,13 +90,13 @@ module _ (s : Setting) (v : Valid s) (H : List Entry) (flight : List Mail) (g : 
   abbrev k : ℕ
   k = s.limit + overs s ms
 
-  home_is : (y : TxnId) → IsIn y mine → home s y ≡ p
+  pub home_is : (y : TxnId) → IsIn y mine → home s y ≡ p
   home_is y i = is (home s y) p (filter_in (λ x. eqb (home s x) p) y s.ids i).1
     where
       is : (a b : ℕ) → eqb a b ≡ true → a ≡ b
       is a b e = grind (arith, nat_tests)
 
-  begun_true : (n : ℕ) → n ≤ overs s ms → (y : TxnId) → IsIn y (take_first (s.limit + n) mine) → is_begun s H flight y ≡ true
+  pub begun_true : (n : ℕ) → n ≤ overs s ms → (y : TxnId) → IsIn y (take_first (s.limit + n) mine) → is_begun s H flight y ≡ true
   begun_true zero le y i =
       let j : IsIn y (take_first s.limit mine) = subst (λ c. IsIn y (take_first c mine)) (plus s.limit) i in
       let m : Mail = record { from = p; to = p; msg = Start (attempt y 1) } in
@@ -116,7 +116,7 @@ module _ (s : Setting) (v : Valid s) (H : List Entry) (flight : List Mail) (g : 
       plus : (a b : ℕ) → a + suc b ≡ suc (a + b)
       plus a b = omega arith
 
-  true_begun : (y : TxnId) → home s y ≡ p → is_begun s H flight y ≡ true → IsIn y (take_first k mine)
+  pub true_begun : (y : TxnId) → home s y ≡ p → is_begun s H flight y ≡ true → IsIn y (take_first k mine)
   true_begun y at e = counted s p y (take_first k mine) (omega (arith, some, ledger, firsts, first, same_limit))
     where
       who : Attempt
@@ -155,7 +155,7 @@ module _ (s : Setting) (v : Valid s) (H : List Entry) (flight : List Mail) (g : 
           plus : (n : ℕ) → n + 0 ≡ n
           plus n = omega arith
 
-  distinct_mine : (y : TxnId) → ids_in y mine ≤ 1
+  pub distinct_mine : (y : TxnId) → ids_in y mine ≤ 1
   distinct_mine y = omega (arith, ids_filter y (λ x. eqb (home s x) p) s.ids, v.once y)
 
   -- a transaction that is over is one of the node's, and was begun

@@ -197,7 +197,7 @@ module _ (s : Setting) (v : Valid s) (H : List Entry) (flight : List Mail) (g : 
     pub ending_to : ending s H who ≡ true → (q : ℕ) × (1 ≤ ends_to q)
     ending_to e = let m = any_found (λ (x : Mail). ends_of who x.msg) (all_mails s H) e in (m.0.to, end_count m.0 m.1 m.2)
 
-    end_mail : (q : ℕ) → 1 ≤ ends_to q → (m : Mail) × IsIn m (all_mails s H) × (ends_of who m.msg ≡ true) × (m.to ≡ q)
+    pub end_mail : (q : ℕ) → 1 ≤ ends_to q → (m : Mail) × IsIn m (all_mails s H) × (ends_of who m.msg ≡ true) × (m.to ≡ q)
     end_mail q h =
         let m = in_counted (sent_to q (is_end who)) (all_said (says s) (home s who.txn) ms) (subst (λ k. 1 ≤ k) (sym (ends_said s (home s who.txn) who q ms (g.fit (home s who.txn)))) h) in
         let b = and_parts (is_end who m.0.msg) (eqb m.0.to q) m.2 in

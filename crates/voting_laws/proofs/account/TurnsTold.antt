@@ -146,7 +146,7 @@ module _ (s : Setting) (v : Valid s) (H : List Entry) (flight : List Mail) (g : 
       more : {n : ℕ} → 1 ≤ n → n ≢ 1 → 1 < n
       more h ne = grind (arith, h, ne)
 
-  said_first : (y : TxnId) → was_said s H (starts_txn y) ≡ is_begun s H flight y
+  pub said_first : (y : TxnId) → was_said s H (starts_txn y) ≡ is_begun s H flight y
   said_first y =
       bool_same (was_said s H (starts_txn y)) (is_begun s H flight y)
       (λ e. let m = any_found (λ (x : Mail). starts_txn y x.msg) (all_mails s H) e in go m.0 m.1 m.0.msg refl m.2)

@@ -12,6 +12,7 @@ use Rattle.server_core.proofs.flight.Flights.{one_flight}
 use Rattle.server_core.proofs.configured.Limiteds.{limits}
 use Rattle.run_laws.proofs.NodeLaws.{mails_fit, runs_end, mails_between, rows_kept_apart}
 use Rattle.server_core.proofs.configured.ValidSettings.{rule_served, valid}
+use Rattle.voting_laws.proofs.Accounted.{run_accounted}
 use Rattle.voting_laws.proofs.Voted as voted
 use Rattle.run_laws.proofs.every_run.runs_are_right.Goals as goal
 
@@ -27,6 +28,7 @@ returns g = record {
       (λ v. let o = choice c.protocol v in voted.all_named c w o.0 o.1 (valid c w k d v) (limits c w k d v) H flight (rule_served c.protocol v).naming run)
       (λ is. ordered.none_named c w is H)
       (votes_or_not c.protocol);
+  account = λ c w H flight k d v run. run_accounted c w k d v H flight run;
   picked = λ c w schedule k d.
       ⊎_elim
       (λ v. let o = choice c.protocol v in voted.picked_quiet c w o.0 o.1 (valid c w k d v) (limits c w k d v) schedule)
