@@ -1,5 +1,5 @@
 -- The rows that came for a transaction.
-use Rattle.std.specs.Prelude.{◌≡◌, ℕ, List, [], ◌∷◌, Bool, ◌==◌, cond, Option, Some, None}
+use Rattle.std.specs.Prelude.{◌≡◌, ℕ, List, [], ◌∷◌, Bool, ◌==◌, Option, Some, None, if◌then◌else◌}
 use Rattle.std.specs.List.{list_any}
 use Rattle.std.specs.Map.{lookup}
 use Rattle.deneva_base.specs.Keys.{id_eq}
@@ -18,7 +18,7 @@ arrivals_at t id = arrivals_in (lookup (id_eq id) t.arrived.entries)
 
 -- new has for the transaction what is said, and for every other what old has
 abbrev pub Sets : Arrivals → TxnId → List Arrival → Arrivals → Type 0
-Sets old id list new = (other : TxnId) → arrivals_at new other ≡ cond (id_eq id other) list (arrivals_at old other)
+Sets old id list new = (other : TxnId) → arrivals_at new other ≡ (if id_eq id other then list else arrivals_at old other)
 
 abbrev pub Same : Arrivals → Arrivals → Type 0
 Same old new = (other : TxnId) → arrivals_at new other ≡ arrivals_at old other
@@ -28,4 +28,4 @@ has_come list part = list_any (λ a. a.part == part) list
 
 abbrev pub rows_of_part : List Arrival → ℕ → List Keyed
 rows_of_part [] part = []
-rows_of_part (a ∷ more) part = cond (a.part == part) a.rows (rows_of_part more part)
+rows_of_part (a ∷ more) part = if a.part == part then a.rows else rows_of_part more part

@@ -1,5 +1,5 @@
 -- Requests for the locks of keys.
-use Rattle.std.specs.Prelude.{List, [], ◌∷◌, Bool, true, false, filter, cond, ◌&&◌, ◌||◌, not, Option, Some, None}
+use Rattle.std.specs.Prelude.{List, [], ◌∷◌, Bool, true, false, filter, ◌&&◌, ◌||◌, not, Option, Some, None, if◌then◌else◌}
 use Rattle.deneva_base.specs.Keys.{id_eq, key_eq}
 use Rattle.deneva_base.specs.declared.keys.Access.{Access}
 use Rattle.deneva_base.specs.declared.keys.Key.{Key}
@@ -13,12 +13,12 @@ for_key key rs = filter (λ r. key_eq r.key key) rs
 -- the transaction's first request is taken out
 abbrev pub without_first : TxnId → List Request → List Request
 without_first id [] = []
-without_first id (r ∷ rs) = cond (id_eq r.id id) rs (r ∷ without_first id rs)
+without_first id (r ∷ rs) = if id_eq r.id id then rs else r ∷ without_first id rs
 
 -- the queue of a key after the transaction left those of its accesses
 abbrev pub left_by : TxnId → List Access → Key → List Request → List Request
 left_by id [] key rs = rs
-left_by id (a ∷ more) key rs = left_by id more key (cond (key_eq a.key key) (without_first id rs) rs)
+left_by id (a ∷ more) key rs = left_by id more key (if key_eq a.key key then without_first id rs else rs)
 
 abbrev pub is_ended : Option TxnId → TxnId → Bool
 is_ended None id = false
@@ -33,4 +33,4 @@ is_free writes id ended (r ∷ rs) = id_eq r.id id || ((is_ended ended r.id || n
 -- the first requests of a queue without those of a transaction that ends: up to one that writes
 abbrev pub heads : TxnId → List Request → List Request
 heads ended [] = []
-heads ended (r ∷ rs) = cond (id_eq r.id ended) (heads ended rs) (r ∷ cond r.writes [] (heads ended rs))
+heads ended (r ∷ rs) = if id_eq r.id ended then heads ended rs else r ∷ (if r.writes then [] else heads ended rs)

@@ -1,5 +1,5 @@
 -- What a transaction reads at a node, and what it leaves there.
-use Rattle.std.specs.Prelude.{ℕ, List, map, filter, Bool, cond, ◌==◌, ◌||◌, Option, Some, None}
+use Rattle.std.specs.Prelude.{ℕ, List, map, filter, Bool, ◌==◌, ◌||◌, Option, Some, None, if◌then◌else◌}
 use Rattle.std.specs.List.{list_all}
 use Rattle.deneva_base.specs.Modes.{reads}
 use Rattle.deneva_base.specs.Partitions.{partition_of}
@@ -34,7 +34,7 @@ mails_after s p rows x = to_all p (msg.Rows x p (reads_after s p rows x)) (parts
 
 -- the rows of a participant, the last of which are these
 abbrev pub rows_with : List Arrival → ℕ → List Keyed → ℕ → List Keyed
-rows_with list part rows q = cond (q == part) rows (rows_of_part list q)
+rows_with list part rows q = if q == part then rows else rows_of_part list q
 
 -- those of all participants are there, with the last
 abbrev pub is_complete : Setting → List Arrival → ℕ → TxnId → Bool

@@ -1,5 +1,5 @@
 -- What a node stands for: the messages that it has handled, the newest first.
-use Rattle.std.specs.Prelude.{◌≡◌, ℕ, List, [], ◌∷◌, ◌++◌, map, length, cond, eqb, Option, Some, None}
+use Rattle.std.specs.Prelude.{◌≡◌, ℕ, List, [], ◌∷◌, ◌++◌, map, length, Option, Some, None, if◌then◌else◌, ◌==◌}
 use Rattle.deneva_base.specs.Keys.{id_eq}
 use Rattle.deneva_base.specs.Lists.{IsIn}
 use Rattle.deneva_base.specs.Partitions.{partition_of}
@@ -30,7 +30,7 @@ use Rattle.calvin_sched.specs.declared.node.CalvinNode.{CalvinNode}
 
 -- a batch, where it came
 abbrev pub batch_if : Setting → List Msg → Slot → Option (List TxnId)
-batch_if s ms l = cond (has_batch ms l) (Some (batch s l)) None
+batch_if s ms l = if has_batch ms l then Some (batch s l) else None
 
 -- the batches that came are those of the global order
 pub record HasBatches (s : Setting) (b : Batches) (ms : List Msg) : Type 0 where
@@ -44,16 +44,16 @@ HasLocks s p locks ms = (key : Key) → queue_at locks key ≡ for_key key (aske
 -- the Rows of a transaction, in the order in which they came
 abbrev pub came_for : TxnId → List Msg → List Arrival
 came_for x [] = []
-came_for x (msg.Rows y q rows ∷ ms) = cond (id_eq y x) (came_for x ms ++ record { part = q; rows = rows } ∷ []) (came_for x ms)
+came_for x (msg.Rows y q rows ∷ ms) = if id_eq y x then came_for x ms ++ record { part = q; rows = rows } ∷ [] else came_for x ms
 came_for x (m ∷ ms) = came_for x ms
 
 -- they are kept until it finishes here
 abbrev pub HasArrivals : Setting → Arrivals → List Msg → Type 0
-HasArrivals s arrivals ms = (x : TxnId) → IsIn x s.ids → arrivals_at arrivals x ≡ cond (is_finished s ms x) [] (came_for x ms)
+HasArrivals s arrivals ms = (x : TxnId) → IsIn x s.ids → arrivals_at arrivals x ≡ (if is_finished s ms x then [] else came_for x ms)
 
 -- the store has the versions of the keys of p, and of no other
 abbrev pub HasVersions : Setting → ℕ → Seen → List Msg → Type 0
-HasVersions s p store ms = (key : Key) → version_at store key ≡ cond (eqb (partition_of key s.parts) p) (version s p ms key) None
+HasVersions s p store ms = (key : Key) → version_at store key ≡ (if partition_of key s.parts == p then version s p ms key else None)
 
 pub record CalvinStands (n : CalvinNode) (ms : List Msg) : Type 0 where
   pub ordered : n.role.config.protocol ≡ Calvin

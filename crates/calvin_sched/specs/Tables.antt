@@ -1,5 +1,5 @@
 -- The queue of each key.
-use Rattle.std.specs.Prelude.{◌≡◌, List, [], Bool, ◌==◌, ◌&&◌, cond, Option, Some, None}
+use Rattle.std.specs.Prelude.{◌≡◌, List, [], Bool, ◌==◌, ◌&&◌, Option, Some, None, if◌then◌else◌}
 use Rattle.std.specs.Map.{lookup}
 use Rattle.deneva_base.specs.declared.keys.Key.{Key}
 use Rattle.calvin_sched.specs.declared.locks.LockTable.{LockTable}
@@ -19,7 +19,7 @@ queue_at t key = queue_in (lookup (same_key key) t.queues.entries)
 
 -- new has at the key what is said, and at every other key what old has
 abbrev pub SetsQueue : LockTable → Key → List Request → LockTable → Type 0
-SetsQueue old key rs new = (other : Key) → queue_at new other ≡ cond (same_key key other) rs (queue_at old other)
+SetsQueue old key rs new = (other : Key) → queue_at new other ≡ (if same_key key other then rs else queue_at old other)
 
 abbrev pub SameQueues : LockTable → LockTable → Type 0
 SameQueues old new = (other : Key) → queue_at new other ≡ queue_at old other

@@ -1,5 +1,5 @@
 //! The global order.
-ghost use Rattle.std.specs.Prelude.{◌≡◌, ◌≤◌, IfOk, map, length, filter, take, eqb};
+ghost use Rattle.std.specs.Prelude.{◌≡◌, ◌≤◌, IfOk, map, length, filter, take, ◌==◌};
 ghost use Rattle.deneva_base.specs.Lists.{IsIn};
 ghost use Rattle.deneva_base.specs.declared.config.Config.{Config};
 ghost use Rattle.txn_program.specs.Serial.{all_ids};
@@ -17,7 +17,7 @@ fn count_homes(work: &Workload, parts: u8, part: u8, limit: usize) -> usize
     requires valid { IsValid work.now }
     requires parts { 1 ≤ parts }
     requires limit { limit ≤ length work.now.programs }
-    ensures counted { (c : Config) → c.parts ≡ parts → result ≡ length (filter (λ x. eqb (home (setting c work.now) x) part) (take limit (all_ids work.now))) }
+    ensures counted { (c : Config) → c.parts ≡ parts → result ≡ length (filter (λ x. home (setting c work.now) x == part) (take limit (all_ids work.now))) }
     ensures few { result ≤ limit }
 {
     let mut count = 0;

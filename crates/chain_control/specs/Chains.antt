@@ -1,5 +1,5 @@
 -- What is kept of a key, as a value.
-use Rattle.std.specs.Prelude.{ℕ, List, [], ◌∷◌, ◌++◌, map, filter, Bool, not, ◌&&◌, ◌||◌, cond, ltb, leb, Option, Some, None}
+use Rattle.std.specs.Prelude.{ℕ, List, [], ◌∷◌, ◌++◌, map, filter, Bool, not, ◌&&◌, ◌||◌, nat_lt, nat_le, Option, Some, None, if◌then◌else◌}
 use Rattle.std.specs.List.{list_any}
 use Rattle.deneva_base.specs.declared.keys.Key.{Key}
 use Rattle.deneva_base.specs.declared.numbers.Attempt.{Attempt}
@@ -37,10 +37,10 @@ opened v = record { requests = []; links = unread v.number v.row ∷ []; floor =
 -- the version that a write would come after was granted to a later stamp
 abbrev pub refused_by : Key → Request → Option Link → Option Cause
 refused_by key r None = None
-refused_by key r (Some l) = cond (writes r.mode && ltb r.stamp l.read) (Some (ReadLater key l.read)) None
+refused_by key r (Some l) = if writes r.mode && nat_lt r.stamp l.read then Some (ReadLater key l.read) else None
 
 abbrev pub refusal : Key → Request → Chain → Option Cause
-refusal key r c = cond (ltb r.stamp c.floor) (Some (Trimmed key c.floor)) (refused_by key r (link_below r.stamp None c.links))
+refusal key r c = if nat_lt r.stamp c.floor then Some (Trimmed key c.floor) else refused_by key r (link_below r.stamp None c.links)
 
 -- the n of the version below a stamp
 abbrev pub low_in : Option Link → ℕ
@@ -59,7 +59,7 @@ marked number stamp c = record { requests = c.requests; links = map (read_by num
 
 -- a granted access, which reads the version of this number where it reads
 abbrev pub with_grant : Number → Request → Chain → Chain
-with_grant number r c = cond (reads r.mode) (marked number r.stamp (with_request r c)) (with_request r c)
+with_grant number r c = if reads r.mode then marked number r.stamp (with_request r c) else with_request r c
 
 -- the attempt's access is taken out
 abbrev pub without : Attempt → Chain → Chain
@@ -81,7 +81,7 @@ overwritten keep who number row c = record {
 }
 
 abbrev pub committed : ℕ → Attempt → Number → List Cell → Chain → Chain
-committed keep who number row c = cond (has_request who c.requests) (overwritten keep who number row c) c
+committed keep who number row c = if has_request who c.requests then overwritten keep who number row c else c
 
 -- the attempt's access is granted, which reads the version of this number
 abbrev pub granted : Attempt → Number → ℕ → Chain → Chain
@@ -89,7 +89,7 @@ granted who number stamp c = record { requests = map (grants_to who) c.requests;
 
 -- a version stays that is not below the floor, or that a waiter is to read
 abbrev pub stays : Chain → Link → Bool
-stays c l = leb c.floor l.number.n || list_any (awaits l.number) c.requests
+stays c l = nat_le c.floor l.number.n || list_any (awaits l.number) c.requests
 
 abbrev pub trimmed : Chain → Chain
 trimmed c = record { requests = c.requests; links = filter (stays c) c.links; floor = c.floor }
@@ -98,7 +98,7 @@ trimmed c = record { requests = c.requests; links = filter (stays c) c.links; fl
 -- stamp, those that no writer before them stops
 abbrev pub goers_after : Key → Attempt → Option Number → ℕ → List Request → List Waiter
 goers_after key ended new writer [] = []
-goers_after key ended new writer (r ∷ rs) = cond (goes_past writer new r) (waiter_for key new r ∷ goers_after key ended new (writer_after ended writer r) rs) (goers_after key ended new (writer_after ended writer r) rs)
+goers_after key ended new writer (r ∷ rs) = if goes_past writer new r then waiter_for key new r ∷ goers_after key ended new (writer_after ended writer r) rs else goers_after key ended new (writer_after ended writer r) rs
 
 abbrev pub goers : Key → Attempt → Option Number → Chain → List Waiter
 goers key ended new c = goers_after key ended new 0 c.requests

@@ -1,5 +1,5 @@
 -- What the calls of a control change.
-use Rattle.std.specs.Prelude.{◌≡◌, ◌⊎◌, ℕ, ◌+◌, List, [], length, Bool, true, ◌&&◌, ltb, cond, Option, Some, None, option_map}
+use Rattle.std.specs.Prelude.{◌≡◌, ◌⊎◌, ℕ, ◌+◌, List, [], length, Bool, true, ◌&&◌, nat_lt, Option, Some, None, option_map, if◌then◌else◌}
 use Rattle.deneva_base.specs.declared.keys.Key.{Key}
 use Rattle.deneva_base.specs.declared.keys.Mode.{Mode}
 use Rattle.deneva_base.specs.declared.numbers.Attempt.{Attempt}
@@ -31,7 +31,7 @@ read_of (Some l) = (l.row, l.number)
 
 -- what an access is granted where this is the version below its stamp
 abbrev pub read_in : Mode → Option Link → List Cell × Number
-read_in mode best = cond (reads mode) (read_of best) ([], loaded_version)
+read_in mode best = if reads mode then read_of best else ([], loaded_version)
 
 -- a number stands between that version and the stamp
 abbrev pub above : Number → Option Link → Bool
@@ -39,13 +39,13 @@ above number None = true
 above number (Some l) = number_lt l.number number
 
 abbrev pub comes_after : Number → ℕ → Option Link → Bool
-comes_after number stamp best = ltb number.n stamp && above number best
+comes_after number stamp best = nat_lt number.n stamp && above number best
 
 -- the version below the stamp after a row came under a number, if there are both
 abbrev pub read_after : Option Number → Option (List Cell) → ℕ → Option Link → List Cell × Number
 read_after None row stamp best = read_of best
 read_after (Some number) None stamp best = read_of best
-read_after (Some number) (Some row) stamp best = cond (comes_after number stamp best) (row, number) (read_of best)
+read_after (Some number) (Some row) stamp best = if comes_after number stamp best then (row, number) else read_of best
 
 -- the wake of a request, when these rows are written where there is a number
 abbrev pub wake_for : Lines → Option Number → List Keyed → Waiter → Wake

@@ -1,5 +1,5 @@
 -- Which versions of a key are kept: the `keep` greatest, or all for 0, and those below the stamps of waiters.
-use Rattle.std.specs.Prelude.{ℕ, List, ◌∷◌, filter, reverse, Bool, ◌&&◌, ◌||◌, leb}
+use Rattle.std.specs.Prelude.{ℕ, List, ◌∷◌, filter, reverse, Bool, ◌&&◌, ◌||◌, nat_le}
 use Rattle.std.specs.List.{list_any}
 use Rattle.deneva_base.specs.declared.keys.Key.{Key}
 use Rattle.deneva_base.specs.Keys.{key_eq, number_eq}
@@ -18,7 +18,7 @@ abbrev pub awaited : Rows → History → Key → List Asked → Version → Boo
 awaited loaded h key ws v = list_any (λ a. key_eq a.key key && number_eq v.number (below loaded h key a.stamp).number) ws
 
 abbrev pub is_kept : ℕ → Rows → History → Key → Version → Bool
-is_kept keep loaded h key v = leb (floor keep loaded h key) v.number.n || awaited loaded h key (waits h) v
+is_kept keep loaded h key v = nat_le (floor keep loaded h key) v.number.n || awaited loaded h key (waits h) v
 
 abbrev pub kept : ℕ → Rows → History → Key → List Version
 kept keep loaded h key = filter (is_kept keep loaded h key) (in_order loaded h key)

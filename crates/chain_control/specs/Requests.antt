@@ -1,5 +1,5 @@
 -- The unended accesses to one key as a list, by rising stamp.
-use Rattle.std.specs.Prelude.{ℕ, List, [], ◌∷◌, Bool, true, false, not, ◌&&◌, cond, ltb, leb, Option, Some, None, option_map}
+use Rattle.std.specs.Prelude.{ℕ, List, [], ◌∷◌, Bool, true, false, not, ◌&&◌, nat_lt, nat_le, Option, Some, None, option_map, if◌then◌else◌}
 use Rattle.std.specs.List.{list_any}
 use Rattle.deneva_base.specs.declared.numbers.Attempt.{Attempt}
 use Rattle.deneva_base.specs.declared.numbers.Number.{Number}
@@ -12,11 +12,11 @@ use Rattle.chain_control.specs.declared.requests.Waiter.{Waiter}
 -- the number of the version below a stamp, once the key was written under a new number, if it was
 abbrev pub raised : Option Number → ℕ → Number → Number
 raised None stamp version = version
-raised (Some number) stamp version = cond (ltb number.n stamp && number_lt version number) number version
+raised (Some number) stamp version = if nat_lt number.n stamp && number_lt version number then number else version
 
 -- it writes, with a stamp above the one and below the other
 abbrev pub stands_between : ℕ → ℕ → Request → Bool
-stands_between low stamp r = writes r.mode && (ltb low r.stamp && ltb r.stamp stamp)
+stands_between low stamp r = writes r.mode && (nat_lt low r.stamp && nat_lt r.stamp stamp)
 
 abbrev pub is_none : Option Number → Bool
 is_none None = true
@@ -32,14 +32,14 @@ is_stopped low stamp rs = list_any (stops low stamp) rs
 -- it waits for a version that is not below the last writer before it, once the key was written under a number, if it was
 abbrev pub past_with : ℕ → Option Number → ℕ → Option Number → Bool
 past_with writer new stamp None = false
-past_with writer new stamp (Some version) = leb writer (raised new stamp version).n
+past_with writer new stamp (Some version) = nat_le writer (raised new stamp version).n
 
 abbrev pub goes_past : ℕ → Option Number → Request → Bool
 goes_past writer new r = past_with writer new r.stamp r.waits
 
 -- the stamp of the last writer up to this one, other than the attempt that ends
 abbrev pub writer_after : Attempt → ℕ → Request → ℕ
-writer_after ended writer r = cond (writes r.mode && not (attempt_eq r.who ended)) r.stamp writer
+writer_after ended writer r = if writes r.mode && not (attempt_eq r.who ended) then r.stamp else writer
 
 -- the number that a waiter reads then
 abbrev pub reads_with : Option Number → ℕ → Option Number → Number
@@ -64,11 +64,11 @@ has_request who rs = list_any (λ r. attempt_eq r.who who) rs
 -- the stamp of the attempt's request, or 0
 abbrev pub stamp_among : Attempt → List Request → ℕ
 stamp_among who [] = 0
-stamp_among who (r ∷ rs) = cond (attempt_eq r.who who) r.stamp (stamp_among who rs)
+stamp_among who (r ∷ rs) = if attempt_eq r.who who then r.stamp else stamp_among who rs
 
 -- the request after those of the attempt are granted
 abbrev pub grants_to : Attempt → Request → Request
-grants_to who r = record { who = r.who; stamp = r.stamp; mode = r.mode; waits = cond (attempt_eq r.who who) None r.waits }
+grants_to who r = record { who = r.who; stamp = r.stamp; mode = r.mode; waits = (if attempt_eq r.who who then None else r.waits) }
 
 -- the request after the key was written under a number
 abbrev pub overtaken : Number → Request → Request
@@ -77,4 +77,4 @@ overtaken number r = record { who = r.who; stamp = r.stamp; mode = r.mode; waits
 -- the requests, by rising stamp, with one more
 abbrev pub put_request : Request → List Request → List Request
 put_request r [] = r ∷ []
-put_request r (x ∷ xs) = cond (ltb x.stamp r.stamp) (x ∷ put_request r xs) (r ∷ x ∷ xs)
+put_request r (x ∷ xs) = if nat_lt x.stamp r.stamp then x ∷ put_request r xs else r ∷ x ∷ xs

@@ -1,5 +1,5 @@
 -- What the tables have for a key.
-use Rattle.std.specs.Prelude.{◌≡◌, ℕ, List, [], ◌∷◌, ◌++◌, length, Bool, true, false, ◌&&◌, cond, Option, Some, None, option_map}
+use Rattle.std.specs.Prelude.{◌≡◌, ℕ, List, [], ◌∷◌, ◌++◌, length, Bool, true, false, ◌&&◌, Option, Some, None, option_map, if◌then◌else◌}
 use Rattle.std.specs.Map.{lookup}
 use Rattle.deneva_base.specs.declared.keys.Key.{Key}
 use Rattle.deneva_base.specs.declared.numbers.Attempt.{Attempt}
@@ -88,7 +88,7 @@ trims_at k c = option_map trimmed c
 
 -- new has at the key what is said, and at every other key what old has
 abbrev pub SetsChain : Lines → Key → Option Chain → Lines → Type 0
-SetsChain old key c new = (other : Key) → chain_at new other ≡ cond (same_key key other) c (chain_at old other)
+SetsChain old key c new = (other : Key) → chain_at new other ≡ (if same_key key other then c else chain_at old other)
 
 abbrev pub SameChains : Lines → Lines → Type 0
 SameChains old new = (other : Key) → chain_at new other ≡ chain_at old other

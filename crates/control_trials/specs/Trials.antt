@@ -1,5 +1,5 @@
 -- Lists of calls, each of which meets its conditions where all before it were answered by a rule.
-use Rattle.std.specs.Prelude.{◌≡◌, ⊤, ℕ, pos, List, [], ◌∷◌, Bool, true, ◌==◌, ◌&&◌, ltb, is_some}
+use Rattle.std.specs.Prelude.{◌≡◌, ⊤, ℕ, pos, List, [], ◌∷◌, Bool, true, ◌==◌, ◌&&◌, nat_lt, is_some}
 use Rattle.deneva_base.specs.declared.keys.Key.{Key}
 use Rattle.deneva_base.specs.declared.numbers.Number.{Number}
 use Rattle.deneva_base.specs.declared.numbers.Attempt.{Attempt}
@@ -60,7 +60,7 @@ Allowed loaded rule h (s ∷ ss) = MayStep loaded h s × Allowed loaded rule (an
 
 -- the keys 0 and 1 of table 0
 abbrev pub is_trial_key : Key → Bool
-is_trial_key k = (k.table == 0) && (ltb k.a 2 && ((k.b == 0) && (k.c == 0)))
+is_trial_key k = (k.table == 0) && (nat_lt k.a 2 && ((k.b == 0) && (k.c == 0)))
 
 abbrev pub HasTwoRows : Seen → Type 0
 HasTwoRows s = (key : Key) → is_trial_key key ≡ true → is_some (row_in s key) ≡ true

@@ -1,6 +1,6 @@
 -- How the state that is kept for a transaction follows from the messages that were handled: it is that of the current
 -- attempt while the transaction is started and not over.
-use Rattle.std.specs.Prelude.{◌≡◌, ◌⊎◌, ℕ, suc, ◌<◌, ◌≤◌, List, [], length, reverse, Bool, true, false, cond, Option, Some, None}
+use Rattle.std.specs.Prelude.{◌≡◌, ◌⊎◌, ℕ, suc, ◌<◌, ◌≤◌, List, [], length, reverse, Bool, true, false, Option, Some, None, if◌then◌else◌}
 use Rattle.deneva_base.specs.declared.numbers.Attempt.{Attempt}
 use Rattle.deneva_base.specs.declared.numbers.Number.{Number}
 use Rattle.deneva_base.specs.declared.numbers.TxnId.{TxnId}
@@ -40,7 +40,7 @@ turns_of s p ms x turn = heard_of s p ms (record { txn = x; turn = turn })
 
 -- the partitions to which its end was said: those asked after a refusal, else the participants
 abbrev pub told_to : Setting → TxnId → Heard → List ℕ
-told_to s x h = cond h.refused (parts_of s.parts (take_first (suc (length h.grants)) (s.accesses x))) (parts_for s x)
+told_to s x h = if h.refused then parts_of s.parts (take_first (suc (length h.grants)) (s.accesses x)) else parts_for s x
 
 -- all accesses are granted, and all participants have voted
 abbrev pub IsPolled : Setting → TxnId → Heard → Type 0

@@ -1,5 +1,5 @@
 -- What a message changes of a coordinator.
-use Rattle.std.specs.Prelude.{◌≡◌, ℕ, ◌+◌, ◌*◌, Bool, cond, not, ◌||◌, eqb, Option}
+use Rattle.std.specs.Prelude.{◌≡◌, ℕ, ◌+◌, ◌*◌, Bool, not, ◌||◌, Option, if◌then◌else◌, ◌==◌}
 use Rattle.deneva_base.specs.declared.numbers.Attempt.{Attempt}
 use Rattle.deneva_base.specs.declared.numbers.TxnId.{TxnId}
 use Rattle.coord.specs.declared.coord.Coord.{Coord}
@@ -27,13 +27,13 @@ pub record Same (old new : Coord) : Type 0 where
 
 -- an attempt takes a stamp of its own
 abbrev pub draws : Coord → Attempt → Bool
-draws c who = eqb who.turn 1 || not c.fixed
+draws c who = who.turn == 1 || not c.fixed
 
 abbrev pub stamp_for : Coord → Attempt → ℕ
-stamp_for c who = cond (draws c who) (c.counter * c.role.config.parts + c.role.part + 1) (kept_stamp (state_at c.open who.txn))
+stamp_for c who = if draws c who then c.counter * c.role.config.parts + c.role.part + 1 else kept_stamp (state_at c.open who.txn)
 
 abbrev pub started_by : Coord → Attempt → State
 started_by c who = begun who.turn (stamp_for c who) ((setting_of c.role).accesses who.txn)
 
 abbrev pub counted_by : Coord → Attempt → ℕ
-counted_by c who = cond (draws c who) (c.counter + 1) c.counter
+counted_by c who = if draws c who then c.counter + 1 else c.counter

@@ -1,5 +1,5 @@
 -- What the coordinator has for each home transaction.
-use Rattle.std.specs.Prelude.{◌≡◌, cond, option_map, Option, Some}
+use Rattle.std.specs.Prelude.{◌≡◌, option_map, Option, Some, if◌then◌else◌}
 use Rattle.std.specs.Map.{lookup}
 use Rattle.deneva_base.specs.declared.numbers.TxnId.{TxnId}
 use Rattle.deneva_base.specs.Keys.{id_eq}
@@ -12,7 +12,7 @@ state_at o x = option_map state_of (lookup (id_eq x) o.attempts.entries)
 
 -- new has this for the transaction, and for every other what old has
 abbrev pub SetsState : OpenTxns → TxnId → Option State → OpenTxns → Type 0
-SetsState old x o new = (y : TxnId) → state_at new y ≡ cond (id_eq x y) o (state_at old y)
+SetsState old x o new = (y : TxnId) → state_at new y ≡ (if id_eq x y then o else state_at old y)
 
 abbrev pub SameStates : OpenTxns → OpenTxns → Type 0
 SameStates old new = (y : TxnId) → state_at new y ≡ state_at old y

@@ -1,5 +1,5 @@
 -- The current attempt of a transaction at its home, and what each message makes of it.
-use Rattle.std.specs.Prelude.{ℕ, suc, ◌+◌, ◌==◌, List, [], ◌∷◌, ◌++◌, map, filter, slice_get, reverse, Bool, cond, not, eqb, ltb, Option, Some, None}
+use Rattle.std.specs.Prelude.{ℕ, suc, ◌+◌, ◌==◌, List, [], ◌∷◌, ◌++◌, map, filter, slice_get, reverse, Bool, not, nat_lt, Option, Some, None, if◌then◌else◌}
 use Rattle.deneva_base.specs.declared.keys.Access.{Access}
 use Rattle.deneva_base.specs.declared.causes.Bound.{Bound}
 use Rattle.deneva_base.specs.declared.numbers.Attempt.{Attempt}
@@ -34,7 +34,7 @@ begun turn stamp accesses = record { turn = turn; stamp = stamp; accesses = acce
 
 -- the row of an access that reads
 abbrev pub row_read : Access → Row → List Keyed
-row_read a row = cond (reads a.mode) (record { key = a.key; row = row } ∷ []) []
+row_read a row = if reads a.mode then record { key = a.key; row = row } ∷ [] else []
 
 -- one more access is granted
 abbrev pub taken : Access → Reply → State → State
@@ -94,7 +94,7 @@ refused_mails s p who t = to_all p (Abort who) (asked_of s t)
 
 -- a partition is no longer waited for
 abbrev pub without : ℕ → List ℕ → List ℕ
-without part left = filter (λ q. not (eqb q part)) left
+without part left = filter (λ q. not (q == part)) left
 
 -- a participant votes: after the last vote, the decision is told to all
 abbrev pub voted_as : Setting → Ballot → State → List ℕ → State
@@ -125,7 +125,7 @@ done part t = done_as t (without part t.left)
 
 -- after the last Undone it waits for its next turn, if it has one
 abbrev pub undone_as : Setting → Attempt → State → List ℕ → Option State
-undone_as s who t [] = cond (ltb who.turn s.attempts) (Some (with_left [] t)) None
+undone_as s who t [] = if nat_lt who.turn s.attempts then Some (with_left [] t) else None
 undone_as s who t (q ∷ left) = Some (with_left (q ∷ left) t)
 
 abbrev pub undone : Setting → Attempt → ℕ → State → Option State
@@ -140,11 +140,11 @@ abbrev pub next_turn : ℕ → Attempt → List Mail
 next_turn p who = record { from = p; to = p; msg = Start (record { txn = who.txn; turn = who.turn + 1 }) } ∷ []
 
 abbrev pub undone_mails : Setting → ℕ → Attempt → List Mail → List Mail
-undone_mails s p who next = cond (ltb who.turn s.attempts) (next_turn p who) next
+undone_mails s p who next = if nat_lt who.turn s.attempts then next_turn p who else next
 
 -- how many transactions are over then
 abbrev pub risen : Bool → ℕ → List ℕ → ℕ
-risen over n [] = cond over (n + 1) n
+risen over n [] = if over then n + 1 else n
 risen over n (q ∷ left) = n
 
 -- the stamp of the attempt before

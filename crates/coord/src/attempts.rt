@@ -1,5 +1,5 @@
 //! The current attempt of a transaction at its home.
-ghost use Rattle.std.specs.Prelude.{◌≡◌, ◌++◌, ◌<◌, ◌≤◌, ◌^◌, ◌+◌, length, slice_get, OnOk, OnErr, None, eqb};
+ghost use Rattle.std.specs.Prelude.{◌≡◌, ◌++◌, ◌<◌, ◌≤◌, ◌^◌, ◌+◌, length, slice_get, OnOk, OnErr, None, ◌==◌};
 ghost use Rattle.std.specs.List.{list_all};
 ghost use Rattle.deneva_base.specs.Lists.{IsIn};
 ghost use Rattle.txn_program.specs.Serial.{all_ids};
@@ -193,7 +193,7 @@ impl Attempting {
 
     /// Whether no other partition is left.
     pub fn is_last(&self, part: u8) -> bool
-        ensures { result ≡ list_all (λ q. eqb q part) self.now.left.items }
+        ensures { result ≡ list_all (λ q. q == part) self.now.left.items }
     {
         for other in &self.left {
             if *other != part {

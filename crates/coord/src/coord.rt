@@ -1,5 +1,5 @@
 //! The coordinator of a node's home transactions.
-ghost use Rattle.std.specs.Prelude.{◌≡◌, ◌++◌, [], ◌<◌, ◌≤◌, ◌^◌, ℕ, List, not, ltb, length, slice_get, IfOk, OnOk, OnErr, Some, None, true, ◌+◌};
+ghost use Rattle.std.specs.Prelude.{◌≡◌, ◌++◌, [], ◌<◌, ◌≤◌, ◌^◌, ℕ, List, not, length, slice_get, IfOk, OnOk, OnErr, Some, None, true, ◌+◌, nat_lt};
 ghost use Rattle.deneva_base.specs.Lists.{IsIn};
 ghost use Rattle.txn_program.specs.Serial.{all_ids};
 ghost use Rattle.txn_program.specs.Valid.{IsValid};
@@ -175,7 +175,7 @@ impl<'w> Coord<'w> {
     /// An attempt has aborted at a partition.
     fn undone(&mut self, who: Attempt, part: u8, out: &mut Outbox) -> Result<(), NoMemory>
         requires next { self.old.next < 2 ^ 63 }
-        ensures ok { OnOk result (WithState self.old.open who.txn (λ t. Moved self.old who.txn (states.undone (setting_of self.old.role) who part t) self.old.counter (risen (not (ltb who.turn self.old.role.config.attempts)) self.old.next (without part t.left)) self.new)) }
+        ensures ok { OnOk result (WithState self.old.open who.txn (λ t. Moved self.old who.txn (states.undone (setting_of self.old.role) who part t) self.old.counter (risen (not (nat_lt who.turn self.old.role.config.attempts)) self.old.next (without part t.left)) self.new)) }
         ensures said { OnOk result (WithState self.old.open who.txn (λ t. out.new.mails ≡ out.old.mails ++ if_none_left (undone_mails (setting_of self.old.role) self.old.role.part who (mail_start self.old.role.part (slice_get self.old.homes.items self.old.next))) (without part t.left))) }
         ensures err { OnErr result (Same self.old self.new) }
         ensures same_mails { OnErr result (out.new.mails ≡ out.old.mails) }

@@ -1,5 +1,5 @@
 //! The home transactions that are started and not over.
-ghost use Rattle.std.specs.Prelude.{◌≡◌, ◌<◌, ◌++◌, eqb, length, Some, None, OnOk, OnErr};
+ghost use Rattle.std.specs.Prelude.{◌≡◌, ◌<◌, ◌++◌, length, Some, None, OnOk, OnErr, ◌==◌};
 ghost use Rattle.std.specs.List.{list_all};
 ghost use Rattle.deneva_base.specs.Lists.{IsIn};
 ghost use Rattle.deneva_base.specs.declared.numbers.TxnId as ids;
@@ -118,7 +118,7 @@ impl OpenTxns {
 
     /// Whether the attempt has ended everywhere but at this partition.
     pub fn is_last(&self, id: TxnId, part: u8) -> bool
-        ensures { WithState self.now id (λ t. result ≡ list_all (λ q. eqb q part) t.left) }
+        ensures { WithState self.now id (λ t. result ≡ list_all (λ q. q == part) t.left) }
     {
         match self.attempts.get(&id) {
             Some(attempt) => attempt.is_last(part),

@@ -1,5 +1,5 @@
 //! What is left to come for an attempt, and what has come.
-ghost use Rattle.std.specs.Prelude.{◌≡◌, not, eqb, filter};
+ghost use Rattle.std.specs.Prelude.{◌≡◌, not, filter, ◌==◌};
 ghost use Rattle.coord.specs.Bounds.{bound_with};
 
 use deneva_base::{Bound, Key, Row};
@@ -14,7 +14,7 @@ pub(crate) struct Grant<'m> {
 
 /// Takes a partition out of those that are left.
 pub(crate) fn take_out(left: &mut Vec<u8>, part: u8)
-    ensures { left.new.items ≡ filter (λ q. not (eqb q part)) left.old.items }
+    ensures { left.new.items ≡ filter (λ q. not (q == part)) left.old.items }
 {
     left.retain(|other| *other != part);
 }

@@ -1,5 +1,5 @@
 -- Membership, the greatest and least of a list by a measure, and sorted lists.
-use Rattle.std.specs.Prelude.{◌≡◌, ◌⊎◌, ℕ, ◌^◌, max, min, List, [], ◌∷◌, Bool, cond}
+use Rattle.std.specs.Prelude.{◌≡◌, ◌⊎◌, ℕ, ◌^◌, max, min, List, [], ◌∷◌, Bool, if◌then◌else◌}
 
 -- x is an element of the list
 abbrev pub IsIn : {A : Type 0} → A → List A → Type 0
@@ -19,7 +19,7 @@ least_by f (x ∷ xs) = min (f x) (least_by f xs)
 -- the list in the order of a test, which says whether one stands before another
 abbrev pub insert : {A : Type 0} → (A → A → Bool) → A → List A → List A
 insert before a [] = a ∷ []
-insert before a (b ∷ bs) = cond (before b a) (b ∷ insert before a bs) (a ∷ b ∷ bs)
+insert before a (b ∷ bs) = if before b a then b ∷ insert before a bs else a ∷ b ∷ bs
 
 abbrev pub sort : {A : Type 0} → (A → A → Bool) → List A → List A
 sort before [] = []

@@ -1,5 +1,5 @@
 -- A table as the value that it has at each key.
-use Rattle.std.specs.Prelude.{◌≡◌, ◌≢◌, ◌⊎◌, Bool, true, false, cond, List, [], ◌∷◌, Option, Some, None}
+use Rattle.std.specs.Prelude.{◌≡◌, ◌≢◌, ◌⊎◌, Bool, true, false, List, [], ◌∷◌, Option, Some, None, if◌then◌else◌}
 use Rattle.std.specs.Map.{lookup}
 use Rattle.key_table.specs.declared.table.Table.{Table}
 
@@ -19,7 +19,7 @@ module _ {K X : Type 0} (eq : K → K → Bool) (e : X) where
 
   -- new has at the key what is said, and at every other key what old has
   abbrev pub Sets : Table K X → K → X → Table K X → Type 0
-  Sets old key x new = (other : K) → at new other ≡ cond (eq key other) x (at old other)
+  Sets old key x new = (other : K) → at new other ≡ (if eq key other then x else at old other)
 
   -- new has at each key what old has
   abbrev pub Same : Table K X → Table K X → Type 0
@@ -29,4 +29,4 @@ module _ {K X A : Type 0} (eq : K → K → Bool) (key : A → K) (change : A �
   -- the value at a key after each of these, one after the other, changed the value at its own key
   abbrev pub changed : List A → K → X → X
   changed [] at x = x
-  changed (a ∷ as') at x = changed as' at (cond (eq (key a) at) (change a x) x)
+  changed (a ∷ as') at x = changed as' at (if eq (key a) at then change a x else x)

@@ -1,5 +1,5 @@
 -- A local history: the calls of one partition with their answers, the newest first.
-use Rattle.std.specs.Prelude.{◌≡◌, ◌≢◌, ℕ, List, [], ◌∷◌, ◌++◌, map, filter, Bool, not, ◌&&◌, cond}
+use Rattle.std.specs.Prelude.{◌≡◌, ◌≢◌, ℕ, List, [], ◌∷◌, ◌++◌, map, filter, Bool, not, ◌&&◌, if◌then◌else◌}
 use Rattle.std.specs.List.{list_any}
 use Rattle.deneva_base.specs.declared.keys.Key.{Key}
 use Rattle.deneva_base.specs.declared.numbers.Attempt.{Attempt}
@@ -67,7 +67,7 @@ wakes_this w a = attempt_eq w.who a.who && key_eq w.key a.key
 
 abbrev pub asked_as : List Asked → Wake → Asked
 asked_as [] w = record { who = w.who; stamp = 0; key = w.key; mode = Read }
-asked_as (a ∷ as') w = cond (wakes_this w a) a (asked_as as' w)
+asked_as (a ∷ as') w = if wakes_this w a then a else asked_as as' w
 
 abbrev pub grant_of : Wake → Asked → Grant
 grant_of w a = record { who = w.who; stamp = a.stamp; key = w.key; mode = a.mode; row = w.row; version = w.version }
@@ -183,4 +183,4 @@ Writes h who key row = (y : Yea) × (y.who ≡ who) × IsIn y (yeas h) × IsIn (
 -- the stamp of the attempt's asks
 abbrev pub stamp_of : List Asked → Attempt → ℕ
 stamp_of [] who = 0
-stamp_of (a ∷ as') who = cond (attempt_eq a.who who) a.stamp (stamp_of as' who)
+stamp_of (a ∷ as') who = if attempt_eq a.who who then a.stamp else stamp_of as' who

@@ -1,5 +1,5 @@
 -- The greatest committed write of a key.
-use Rattle.std.specs.Prelude.{List, [], ◌∷◌, Bool, cond, Option, Some, None}
+use Rattle.std.specs.Prelude.{List, [], ◌∷◌, Bool, Option, Some, None, if◌then◌else◌}
 use Rattle.std.specs.List.{list_any}
 use Rattle.deneva_base.specs.declared.keys.Key.{Key}
 use Rattle.deneva_base.specs.declared.numbers.Attempt.{Attempt}
@@ -16,7 +16,7 @@ row_for key ws = row_of ws key
 
 abbrev pub writes_in : List Yea → Attempt → List Keyed
 writes_in [] who = []
-writes_in (y ∷ ys) who = cond (attempt_eq y.who who) y.writes (writes_in ys who)
+writes_in (y ∷ ys) who = if attempt_eq y.who who then y.writes else writes_in ys who
 
 pub record Version : Type 0 where
   pub number : Number
@@ -24,7 +24,7 @@ pub record Version : Type 0 where
 
 -- the version of the greater number, and the first where the numbers are equal
 abbrev pub greater : Version → Version → Version
-greater v w = cond (number_lt v.number w.number) w v
+greater v w = if number_lt v.number w.number then w else v
 
 abbrev pub newer : Version → Number → Option Row → Version
 newer old number None = old
@@ -43,4 +43,4 @@ has_ended h who = list_any (attempt_eq who) (ended h)
 
 -- what an access is granted where the version is found: a Put has no cells and version (0, 0)
 abbrev pub seen : Mode → Version → Version
-seen mode v = cond (reads mode) v (record { number = loaded_version; row = [] })
+seen mode v = if reads mode then v else record { number = loaded_version; row = [] }

@@ -1,10 +1,10 @@
 -- The least of a list, and the greatest.
-use Rattle.std.specs.Prelude.{◌≡◌, ℕ, ◌≤◌, List, [], ◌∷◌, Bool, false, cond}
+use Rattle.std.specs.Prelude.{◌≡◌, ℕ, ◌≤◌, List, [], ◌∷◌, Bool, false, if◌then◌else◌}
 
 -- the least of a list that is not empty, by a test which says whether one is below another; of equal ones the first
 abbrev pub least_of : {A : Type 0} → (A → A → Bool) → A → List A → A
 least_of below x [] = x
-least_of below x (y ∷ ys) = least_of below (cond (below y x) y x) ys
+least_of below x (y ∷ ys) = least_of below (if below y x then y else x) ys
 
 -- it is one of those for which P holds, and none of them is below it
 abbrev pub IsLeast : {A : Type 0} → (A → A → Bool) → (A → Type 0) → A → Type 0

@@ -1,5 +1,5 @@
 -- The rows that the committed attempts of a history leave.
-use Rattle.std.specs.Prelude.{List, [], ◌∷◌, ◌++◌, cond, Option, Some, None}
+use Rattle.std.specs.Prelude.{List, [], ◌∷◌, ◌++◌, Option, Some, None, if◌then◌else◌}
 use Rattle.protocol_rules.specs.History.{History, Yea, Decided, yeas, decided}
 use Rattle.deneva_base.specs.Keys.{attempt_eq, number_lt}
 use Rattle.protocol_rules.specs.Latest.{Version, row_for}
@@ -13,7 +13,7 @@ use Rattle.deneva_base.specs.declared.rows.Keyed.{Keyed}
 abbrev pub later : Option Version → Number → Option Row → Option Version
 later best number None = best
 later None number (Some row) = Some (record { number = number; row = row })
-later (Some v) number (Some row) = cond (number_lt v.number number) (Some (record { number = number; row = row })) (Some v)
+later (Some v) number (Some row) = if number_lt v.number number then Some (record { number = number; row = row }) else Some v
 
 abbrev pub row_or : Option Row → Option Version → Option Row
 row_or old None = old
@@ -22,12 +22,12 @@ row_or old (Some v) = Some v.row
 -- what the attempt's vote lists: its writes and its appends
 abbrev pub left_in : List Yea → Attempt → List Keyed
 left_in [] who = []
-left_in (y ∷ ys) who = cond (attempt_eq y.who who) (y.writes ++ y.appends) (left_in ys who)
+left_in (y ∷ ys) who = if attempt_eq y.who who then y.writes ++ y.appends else left_in ys who
 
 -- its appends alone
 abbrev pub appends_in : List Yea → Attempt → List Keyed
 appends_in [] who = []
-appends_in (y ∷ ys) who = cond (attempt_eq y.who who) y.appends (appends_in ys who)
+appends_in (y ∷ ys) who = if attempt_eq y.who who then y.appends else appends_in ys who
 
 -- the row of the greatest number that one of these committed attempts leaves for the key
 abbrev pub greatest_at : Key → List Yea → List Decided → Option Version

@@ -1,5 +1,5 @@
 -- What the two lock rules share.
-use Rattle.std.specs.Prelude.{ℕ, ◌+◌, ◌^◌, max, List, [], ◌∷◌, filter, ◌&&◌, ◌||◌, not, Bool, cond}
+use Rattle.std.specs.Prelude.{ℕ, ◌+◌, ◌^◌, max, List, [], ◌∷◌, filter, ◌&&◌, ◌||◌, not, Bool, if◌then◌else◌}
 use Rattle.std.specs.List.{list_any}
 use Rattle.deneva_base.specs.declared.keys.Key.{Key}
 use Rattle.deneva_base.specs.declared.numbers.Attempt.{Attempt}
@@ -41,7 +41,7 @@ met h who d = list_any (λ mine. attempt_eq mine.who who && list_any (λ other. 
 -- the greatest n of those committed attempts, and 0 without one
 abbrev pub greatest_met : History → Attempt → List Decided → ℕ
 greatest_met h who [] = 0
-greatest_met h who (d ∷ ds) = max (cond (met h who d) d.number.n 0) (greatest_met h who ds)
+greatest_met h who (d ∷ ds) = max (if met h who d then d.number.n else 0) (greatest_met h who ds)
 
 abbrev pub lock_vote : History → Attempt → Vote
 lock_vote h who = Yes (1 + greatest_met h who (decided h)) (2 ^ 63)

@@ -1,5 +1,5 @@
 -- Windows from what was read and what was accessed.
-use Rattle.std.specs.Prelude.{ℕ, suc, ◌+◌, ◌-◌, ◌^◌, max, min, List, [], ◌∷◌, ◌++◌, map, filter, Bool, ◌&&◌, not, ltb, leb, eqb, cond}
+use Rattle.std.specs.Prelude.{ℕ, suc, ◌+◌, ◌-◌, ◌^◌, max, min, List, [], ◌∷◌, ◌++◌, map, filter, Bool, ◌&&◌, not, nat_lt, nat_le, if◌then◌else◌, ◌==◌}
 use Rattle.std.specs.List.{list_any}
 use Rattle.deneva_base.specs.declared.keys.Key.{Key}
 use Rattle.deneva_base.specs.declared.numbers.Attempt.{Attempt}
@@ -34,11 +34,11 @@ wrote h u key = list_any (λ y. attempt_eq y.who u && lists y.writes key) (yeas 
 
 -- one past the number of each committed attempt that accessed the key
 abbrev pub past_committed : History → Key → Decided → ℕ
-past_committed h key d = cond (accessed h d.who key) (suc d.number.n) 0
+past_committed h key d = if accessed h d.who key then suc d.number.n else 0
 
 -- one past the upper end of each prepared one
 abbrev pub past_prepared : History → Key → Yea → ℕ
-past_prepared h key y = cond (not (has_ended h y.who) && accessed h y.who key) (suc y.hi) 0
+past_prepared h key y = if not (has_ended h y.who) && accessed h y.who key then suc y.hi else 0
 
 -- the greatest of these, and 0 without one
 abbrev pub past : History → Key → ℕ
@@ -56,18 +56,18 @@ grant_latest loaded h key mode = Granted (seen mode (latest loaded h key)).row (
 
 -- what an access of the attempt asks of the lower end: one past the version read, and for a key written what passes all that accessed it
 abbrev pub low_of : History → Attempt → List Keyed → Grant → ℕ
-low_of h who ws g = cond (attempt_eq g.who who) (max (cond (reads g.mode) (suc g.version.n) 0) (cond (lists ws g.key) (past h g.key) 0)) 0
+low_of h who ws g = if attempt_eq g.who who then max (if reads g.mode then suc g.version.n else 0) (if lists ws g.key then past h g.key else 0) else 0
 
 abbrev pub low : History → Attempt → Bound → List Keyed → ℕ
 low h who bound ws = max 1 (max bound.n (greatest_by (low_of h who ws) (grants h)))
 
 -- a prepared attempt limits the access of this one: it is to write the key read, with a window that ends above the version
 abbrev pub limits_prepared : History → Attempt → Grant → Yea → Bool
-limits_prepared h who g y = attempt_eq g.who who && (reads g.mode && (not (attempt_eq y.who who) && (not (has_ended h y.who) && (lists y.writes g.key && ltb g.version.n y.hi))))
+limits_prepared h who g y = attempt_eq g.who who && (reads g.mode && (not (attempt_eq y.who who) && (not (has_ended h y.who) && (lists y.writes g.key && nat_lt g.version.n y.hi))))
 
 -- to one below its lower end
 abbrev pub under_prepared : History → Attempt → Grant → Yea → ℕ
-under_prepared h who g y = cond (limits_prepared h who g y) (y.lo - 1) (2 ^ 63)
+under_prepared h who g y = if limits_prepared h who g y then y.lo - 1 else 2 ^ 63
 
 -- a committed attempt limits it: it wrote the key read above the version
 abbrev pub limits_committed : History → Attempt → Grant → Decided → Bool
@@ -75,7 +75,7 @@ limits_committed h who g d = attempt_eq g.who who && (reads g.mode && (wrote h d
 
 -- to one below its number
 abbrev pub under_committed : History → Attempt → Grant → Decided → ℕ
-under_committed h who g d = cond (limits_committed h who g d) (d.number.n - 1) (2 ^ 63)
+under_committed h who g d = if limits_committed h who g d then d.number.n - 1 else 2 ^ 63
 
 abbrev pub high : History → Attempt → ℕ
 high h who = min (least_by (λ g. least_by (under_prepared h who g) (yeas h)) (grants h)) (least_by (λ g. least_by (under_committed h who g) (decided h)) (grants h))
@@ -87,14 +87,14 @@ least_or below x (y ∷ ys) = least_of below y ys
 
 -- the bound's key where it gives the lower end, else the least key that gives it by the measure
 abbrev pub lo_key : History → Bound → (Grant → ℕ) → ℕ → Key
-lo_key h bound f lo = cond (eqb bound.n lo) bound.key (least_or key_lt bound.key (map (λ g. g.key) (filter (λ g. eqb (f g) lo) (grants h))))
+lo_key h bound f lo = if bound.n == lo then bound.key else least_or key_lt bound.key (map (λ g. g.key) (filter (λ g. f g == lo) (grants h)))
 
 -- those that limit the attempt to this upper end
 abbrev pub gives_prepared : History → Attempt → ℕ → Yea → Bool
-gives_prepared h who hi y = list_any (λ g. limits_prepared h who g y && eqb (y.lo - 1) hi) (grants h)
+gives_prepared h who hi y = list_any (λ g. limits_prepared h who g y && (y.lo - 1) == hi) (grants h)
 
 abbrev pub gives_committed : History → Attempt → ℕ → Decided → Bool
-gives_committed h who hi d = list_any (λ g. limits_committed h who g d && eqb (d.number.n - 1) hi) (grants h)
+gives_committed h who hi d = list_any (λ g. limits_committed h who g d && (d.number.n - 1) == hi) (grants h)
 
 -- the least of them, and the attempt itself where there is none
 abbrev pub hi_by : History → Attempt → ℕ → Attempt
@@ -102,4 +102,4 @@ hi_by h who hi = least_or attempt_lt who (map (λ y. y.who) (filter (gives_prepa
 
 -- No where the window is empty, else at most span numbers of it
 abbrev pub window_vote : ℕ → Key → Attempt → ℕ → ℕ → Vote
-window_vote span key by lo hi = cond (leb lo hi) (Yes lo (min hi (lo + span - 1))) (No (EmptyRange lo key hi by))
+window_vote span key by lo hi = if nat_le lo hi then Yes lo (min hi (lo + span - 1)) else No (EmptyRange lo key hi by)

@@ -1,5 +1,5 @@
 -- The rule of TIMESTAMP.
-use Rattle.std.specs.Prelude.{ℕ, [], ◌∷◌, ◌&&◌, ltb, cond}
+use Rattle.std.specs.Prelude.{ℕ, [], ◌∷◌, ◌&&◌, nat_lt, if◌then◌else◌}
 use Rattle.std.specs.List.{list_any}
 use Rattle.deneva_base.specs.declared.keys.Key.{Key}
 use Rattle.deneva_base.specs.declared.numbers.Attempt.{Attempt}
@@ -24,14 +24,14 @@ top_written h key = greatest_by (λ v. v.number.n) (written h key)
 
 -- the greatest stamp ever granted to an access that reads the key
 abbrev pub top_read : History → Key → ℕ
-top_read h key = greatest_by (λ g. cond (key_eq g.key key && reads g.mode) g.stamp 0) (grants h)
+top_read h key = greatest_by (λ g. if key_eq g.key key && reads g.mode then g.stamp else 0) (grants h)
 
 abbrev pub timestamp_answer : Rows → History → Attempt → ℕ → Key → Mode → Answer
 timestamp_answer loaded h who stamp key mode =
-    cond (reads mode && ltb stamp (top_written h key)) (Refused (Written key (top_written h key)))
-    (cond (writes mode && ltb stamp (top_read h key)) (Refused (ReadLater key (top_read h key)))
-    (cond (reads mode && list_any (older_writer (this who stamp key mode)) (holders h)) Waits
-    (granted_with (seen mode (below loaded h key stamp)))))
+    if reads mode && nat_lt stamp (top_written h key) then Refused (Written key (top_written h key))
+    else if writes mode && nat_lt stamp (top_read h key) then Refused (ReadLater key (top_read h key))
+    else if reads mode && list_any (older_writer (this who stamp key mode)) (holders h) then Waits
+    else granted_with (seen mode (below loaded h key stamp))
 
 abbrev pub timestamp : Rows → Rule
 timestamp loaded = record {

@@ -1,5 +1,5 @@
 -- Waiters that are tried one after another.
-use Rattle.std.specs.Prelude.{List, [], ◌∷◌, map, filter, Bool, cond}
+use Rattle.std.specs.Prelude.{List, [], ◌∷◌, map, filter, Bool, if◌then◌else◌}
 use Rattle.std.specs.List.{list_any}
 use Rattle.deneva_base.specs.declared.numbers.Attempt.{Attempt}
 use Rattle.deneva_base.specs.Rows.{Rows}
@@ -12,7 +12,7 @@ use Rattle.protocol_rules.specs.Waiting.{holders, holds, wake_of}
 -- those of the list that are granted, tried one after another: none of those that hold stops them, nor one granted before
 abbrev pub tried : (Asked → Asked → Bool) → List Asked → List Asked → List Asked
 tried stops held [] = []
-tried stops held (a ∷ as') = cond (list_any (stops a) held) (tried stops held as') (a ∷ tried stops (a ∷ held) as')
+tried stops held (a ∷ as') = if list_any (stops a) held then tried stops held as' else a ∷ tried stops (a ∷ held) as'
 
 -- the waiters of its keys, in rising order of their stamps
 abbrev pub to_try : History → Attempt → List Asked

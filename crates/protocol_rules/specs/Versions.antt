@@ -1,5 +1,5 @@
 -- The committed writes of a key, and the greatest of them below a stamp.
-use Rattle.std.specs.Prelude.{ℕ, List, [], ◌∷◌, ◌++◌, filter, ltb, Option, Some, None}
+use Rattle.std.specs.Prelude.{ℕ, List, [], ◌∷◌, ◌++◌, filter, nat_lt, Option, Some, None}
 use Rattle.deneva_base.specs.declared.keys.Key.{Key}
 use Rattle.deneva_base.specs.declared.numbers.Number.{Number}
 use Rattle.deneva_base.specs.Rows.{Row, Rows, row_or_empty}
@@ -30,4 +30,4 @@ greatest v (w ∷ ws) = greater (greatest v ws) w
 
 -- the committed write of the greatest number below the stamp, or the loaded row
 abbrev pub below : Rows → History → Key → ℕ → Version
-below loaded h key stamp = greatest (start loaded key) (filter (λ v. ltb v.number.n stamp) (written h key))
+below loaded h key stamp = greatest (start loaded key) (filter (λ v. nat_lt v.number.n stamp) (written h key))

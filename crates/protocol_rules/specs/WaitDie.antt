@@ -1,5 +1,5 @@
 -- The rule of WAIT_DIE.
-use Rattle.std.specs.Prelude.{◌≡◌, ⊤, ◌<◌, List, [], ◌∷◌, map, filter, ◌&&◌, not, Bool, true, false, cond, ltb, leb}
+use Rattle.std.specs.Prelude.{◌≡◌, ⊤, ◌<◌, List, [], ◌∷◌, map, filter, ◌&&◌, not, Bool, true, false, nat_lt, nat_le, if◌then◌else◌}
 use Rattle.std.specs.List.{list_any}
 use Rattle.deneva_base.specs.declared.keys.Key.{Key}
 use Rattle.deneva_base.specs.declared.numbers.Attempt.{Attempt}
@@ -20,11 +20,11 @@ use Rattle.protocol_rules.specs.Waiting.{holders}
 
 -- the conflicting owners of smaller stamp
 abbrev pub elders : History → Asked → List Grant
-elders h a = filter (λ g. ltb g.stamp a.stamp) (blockers h a)
+elders h a = filter (λ g. nat_lt g.stamp a.stamp) (blockers h a)
 
 -- the conflicting waiters of greater stamp
 abbrev pub ahead : History → Asked → List Asked
-ahead h a = filter (λ b. conflicts b.who b.key b.mode a.who a.key a.mode && ltb a.stamp b.stamp) (waits h)
+ahead h a = filter (λ b. conflicts b.who b.key b.mode a.who a.key a.mode && nat_lt a.stamp b.stamp) (waits h)
 
 abbrev pub none : {A : Type 0} → List A → Bool
 none [] = true
@@ -36,7 +36,7 @@ is_free h a = none (blockers h a) && none (ahead h a)
 
 -- the waiters that are free, and before which all waiters of the key are free
 abbrev pub front : History → List Asked
-front h = filter (λ a. none (filter (λ b. key_eq b.key a.key && (leb a.stamp b.stamp && not (is_free h b))) (waits h))) (waits h)
+front h = filter (λ a. none (filter (λ b. key_eq b.key a.key && (nat_le a.stamp b.stamp && not (is_free h b))) (waits h))) (waits h)
 
 abbrev pub wake_of : Rows → History → Asked → Wake
 wake_of loaded h a = let v : Version = seen a.mode (latest loaded h a.key) in record { who = a.who; key = a.key; row = v.row; version = v.number; bound = 0 }
@@ -46,7 +46,7 @@ abbrev pub wakes : Rows → History → List Wake
 wakes loaded h = map (wake_of loaded h) (sort by_falling_stamp (front h))
 
 abbrev pub younger_or : Key → List Grant → Bool → Version → Answer
-younger_or key [] is_free v = cond is_free (Granted v.row v.number 0) Waits
+younger_or key [] is_free v = if is_free then Granted v.row v.number 0 else Waits
 younger_or key (g ∷ gs) is_free v = Refused (Younger key (least g gs).who (least g gs).stamp)
 
 abbrev pub wait_die : Rows → Rule
@@ -109,7 +109,7 @@ WakesInTurn loaded h (Abort who woken) = InTurn loaded (Abort who [] ∷ h) woke
 -- from the front of a queue, each while it is compatible with those that hold and with those taken before it
 abbrev pub taken : List Asked → List Asked → List Asked
 taken held [] = []
-taken held (a ∷ as') = cond (list_any (λ b. conflicts b.who b.key b.mode a.who a.key a.mode) held) [] (a ∷ taken (a ∷ held) as')
+taken held (a ∷ as') = if list_any (λ b. conflicts b.who b.key b.mode a.who a.key a.mode) held then [] else a ∷ taken (a ∷ held) as'
 
 -- the wakes of a key are those that are taken from the front of its queue, on the owners that are left
 abbrev pub FromFront : Rows → History → List Wake → Type 0

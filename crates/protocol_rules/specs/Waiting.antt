@@ -1,5 +1,5 @@
 -- Who keeps an access waiting, and whom a call wakes.
-use Rattle.std.specs.Prelude.{ℕ, List, map, filter, Bool, ◌&&◌, not, ltb}
+use Rattle.std.specs.Prelude.{ℕ, List, map, filter, Bool, ◌&&◌, not, nat_lt}
 use Rattle.std.specs.List.{list_any}
 use Rattle.deneva_base.specs.declared.keys.Key.{Key}
 use Rattle.deneva_base.specs.declared.numbers.Attempt.{Attempt}
@@ -28,7 +28,7 @@ holders h = map as_asked (filter (λ g. not (has_ended h g.who)) (grants h))
 
 -- b is an Update or Put of smaller stamp on the key of a
 abbrev pub older_writer : Asked → Asked → Bool
-older_writer a b = key_eq b.key a.key && (writes b.mode && ltb b.stamp a.stamp)
+older_writer a b = key_eq b.key a.key && (writes b.mode && nat_lt b.stamp a.stamp)
 
 -- the attempt was granted the key
 abbrev pub holds : History → Attempt → Key → Bool

@@ -1,6 +1,6 @@
 -- What a table stands for: a history, of which it has for each key the unended accesses, the greatest number of a committed
 -- one and the last version, and for each attempt its keys and rows.
-use Rattle.std.specs.Prelude.{◌≡◌, ℕ, ◌-◌, List, [], ◌∷◌, map, filter, reverse, Bool, false, not, ◌&&◌, cond, Option, Some, None}
+use Rattle.std.specs.Prelude.{◌≡◌, ℕ, ◌-◌, List, [], ◌∷◌, map, filter, reverse, Bool, false, not, ◌&&◌, Option, Some, None, if◌then◌else◌}
 use Rattle.deneva_base.specs.declared.keys.Key.{Key}
 use Rattle.deneva_base.specs.declared.numbers.Attempt.{Attempt}
 use Rattle.deneva_base.specs.Lists.{greatest_by}
@@ -40,11 +40,11 @@ held_here h key = filter (is_held h key) (reverse (grants h))
 -- the window of the attempt's vote at a key
 abbrev pub window_in : List Yea → Attempt → Key → Option Window
 window_in [] who key = None
-window_in (y ∷ ys) who key = cond (attempt_eq y.who who) (Some (record { lo = y.lo; hi = y.hi; writes = lists y.writes key })) (window_in ys who key)
+window_in (y ∷ ys) who key = if attempt_eq y.who who then Some (record { lo = y.lo; hi = y.hi; writes = lists y.writes key }) else window_in ys who key
 
 -- one below the number of a committed attempt that wrote the key above the version read
 abbrev pub under_decided : History → Grant → Decided → Option Upper
-under_decided h g d = cond (reads g.mode && (wrote h d.who g.key && number_lt g.version d.number)) (Some (record { n = d.number.n - 1; by = d.who })) None
+under_decided h g d = if reads g.mode && (wrote h d.who g.key && number_lt g.version d.number) then Some (record { n = d.number.n - 1; by = d.who }) else None
 
 -- what is kept of a granted access
 abbrev pub held_of : History → Grant → Held

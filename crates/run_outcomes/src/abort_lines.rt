@@ -1,5 +1,5 @@
 //! The lines of aborted attempts.
-ghost use Rattle.std.specs.Prelude.{◌≡◌, ◌&&◌, ◌++◌, List, Some, None, eqb, map, option_map, option_to_list, IfOk, OnOk};
+ghost use Rattle.std.specs.Prelude.{◌≡◌, ◌&&◌, ◌++◌, List, Some, None, map, option_map, option_to_list, IfOk, OnOk, ◌==◌};
 ghost use Rattle.std.specs.List.{find};
 ghost use Rattle.server_core.specs.Aborts as aborts;
 ghost use Rattle.server_core.specs.Coordinator as coordinator;
@@ -60,14 +60,14 @@ fn newest_ask<'h>(who: Attempt, key: Key, entries: &[&'h Entry]) -> Option<&'h E
 
 /// The newest entry at which the node prepared the attempt.
 fn newest_prepare<'h>(who: Attempt, node: u8, entries: &[&'h Entry]) -> Option<&'h Entry>
-    ensures { result ≡ find (λ e. eqb e.now.node node && aborts.is_prepare_of who e.now.msg) entries.now }
+    ensures { result ≡ find (λ e. e.now.node == node && aborts.is_prepare_of who e.now.msg) entries.now }
 {
     entries.iter().copied().find(|entry| entry.node == node && is_prepare_of(who, &entry.msg))
 }
 
 /// The newest entry at which the node had a vote on the attempt.
 fn newest_vote<'h>(who: Attempt, node: u8, entries: &[&'h Entry]) -> Option<&'h Entry>
-    ensures { result ≡ find (λ e. eqb e.now.node node && aborts.is_vote_of who e.now.msg) entries.now }
+    ensures { result ≡ find (λ e. e.now.node == node && aborts.is_vote_of who e.now.msg) entries.now }
 {
     entries
         .iter()

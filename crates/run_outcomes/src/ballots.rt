@@ -1,5 +1,5 @@
 //! What the votes on an attempt come to.
-ghost use Rattle.std.specs.Prelude.{◌≡◌, eqb, true};
+ghost use Rattle.std.specs.Prelude.{◌≡◌, true, ◌==◌};
 ghost use Rattle.std.specs.List.{list_any};
 ghost use Rattle.server_core.specs.Aborts as aborts;
 ghost use Rattle.server_core.specs.Coordinator as coordinator;
@@ -39,7 +39,7 @@ impl End {
 
 /// Whether the partition has voted.
 fn has_voted(ballots: &[Ballot], part: u8) -> bool
-    ensures { result ≡ list_any (λ b. eqb b.part part) ballots.now }
+    ensures { result ≡ list_any (λ b. b.part == part) ballots.now }
 {
     match ballots {
         [] => false,

@@ -1,5 +1,5 @@
 //! What came for an attempt among the messages that its home has handled, the newest first.
-ghost use Rattle.std.specs.Prelude.{◌≡◌, IfOk, map, reverse, length, eqb};
+ghost use Rattle.std.specs.Prelude.{◌≡◌, IfOk, map, reverse, length, ◌==◌};
 ghost use Rattle.std.specs.List.{list_any};
 ghost use Rattle.server_core.specs.Aborts as aborts;
 ghost use Rattle.server_core.specs.Ends.{dones_for, undones_for};
@@ -121,7 +121,7 @@ pub(crate) fn votes_for(
 
 /// Whether the attempt has committed at the partition.
 fn has_done(who: Attempt, part: u8, messages: &[&Msg]) -> bool
-    ensures { result ≡ list_any (λ c. eqb c part) (dones_for who (map (λ m. m.now) messages.now)) }
+    ensures { result ≡ list_any (λ c. c == part) (dones_for who (map (λ m. m.now) messages.now)) }
 {
     let [msg, before @ ..] = messages else {
         return false;
@@ -148,7 +148,7 @@ pub(crate) fn all_done(who: Attempt, parts: &[u8], messages: &[&Msg]) -> bool
 
 /// Whether the attempt has aborted at the partition.
 fn has_undone(who: Attempt, part: u8, messages: &[&Msg]) -> bool
-    ensures { result ≡ list_any (λ c. eqb c part) (undones_for who (map (λ m. m.now) messages.now)) }
+    ensures { result ≡ list_any (λ c. c == part) (undones_for who (map (λ m. m.now) messages.now)) }
 {
     let [msg, before @ ..] = messages else {
         return false;

@@ -1,5 +1,5 @@
 -- The attempts that were aborted, each with its cause and the entry at which it was found.
-use Rattle.std.specs.Prelude.{ℕ, zero, suc, List, [], ◌∷◌, ◌++◌, Bool, true, false, cond, ◌&&◌, eqb, ltb, Option, Some, None}
+use Rattle.std.specs.Prelude.{ℕ, zero, suc, List, [], ◌∷◌, ◌++◌, Bool, true, false, ◌&&◌, nat_lt, Option, Some, None, if◌then◌else◌, ◌==◌}
 use Rattle.std.specs.List.{flat_map}
 use Rattle.deneva_base.specs.declared.keys.Key.{Key}
 use Rattle.deneva_base.specs.declared.numbers.TxnId.{TxnId}
@@ -34,7 +34,7 @@ is_vote_of who m = false
 -- the newest entry that passes
 abbrev pub newest : (Entry → Bool) → List Entry → Option Entry
 newest t [] = None
-newest t (e ∷ H) = cond (t e) (Some e) (newest t H)
+newest t (e ∷ H) = if t e then Some e else newest t H
 
 abbrev pub line_at : Attempt → Cause → Option Entry → List AbortLine
 line_at who cause None = []
@@ -46,18 +46,18 @@ pub record Refusal : Type 0 where
 
 abbrev pub refusal_for : Attempt → List Msg → Option Refusal
 refusal_for who [] = None
-refusal_for who (Refused x key cause ∷ ms) = cond (attempt_eq x who) (Some (record { key = key; cause = cause })) (refusal_for who ms)
+refusal_for who (Refused x key cause ∷ ms) = if attempt_eq x who then Some (record { key = key; cause = cause }) else refusal_for who ms
 refusal_for who (m ∷ ms) = refusal_for who ms
 
 -- the least partition whose vote has this end
 abbrev pub lesser : Bool → ℕ → Option ℕ → Option ℕ
 lesser false p o = o
 lesser true p None = Some p
-lesser true p (Some q) = Some (cond (ltb p q) p q)
+lesser true p (Some q) = Some (if nat_lt p q then p else q)
 
 abbrev pub least_part : (Vote → ℕ) → ℕ → List Ballot → Option ℕ
 least_part end n [] = None
-least_part end n (b ∷ bs) = lesser (eqb (end b.vote) n) b.part (least_part end n bs)
+least_part end n (b ∷ bs) = lesser (end b.vote == n) b.part (least_part end n bs)
 
 abbrev pub part_or : Option ℕ → ℕ
 part_or None = 0
@@ -67,13 +67,13 @@ abbrev pub apart_of : List Ballot → Cause
 apart_of bs = Apart (greatest_lo bs) (part_or (least_part lo_of (greatest_lo bs) bs)) (least_hi bs) (part_or (least_part hi_of (least_hi bs) bs))
 
 abbrev pub vote_abort : Setting → List Entry → Attempt → List Ballot → Option (ℕ × Cause) → List AbortLine
-vote_abort s H who bs (Some c) = line_at who c.1 (newest (λ e. eqb e.node c.0 && is_prepare_of who e.msg) H)
-vote_abort s H who bs None = cond (ltb (least_hi bs) (greatest_lo bs)) (line_at who (apart_of bs) (newest (λ e. eqb e.node (home s who.txn) && is_vote_of who e.msg) H)) []
+vote_abort s H who bs (Some c) = line_at who c.1 (newest (λ e. e.node == c.0 && is_prepare_of who e.msg) H)
+vote_abort s H who bs None = if nat_lt (least_hi bs) (greatest_lo bs) then line_at who (apart_of bs) (newest (λ e. e.node == home s who.txn && is_vote_of who e.msg) H) else []
 
 abbrev pub abort_lines : Setting → List Entry → Attempt → Option Refusal → List AbortLine
 abort_lines s H who (Some r) = line_at who r.cause (newest (λ e. is_ask_of who r.key e.msg) H)
 abort_lines s H who None =
-    cond (started_for who (at_home s H who) && all_voted (votes_for who (at_home s H who)) (participants s who)) (vote_abort s H who (votes_for who (at_home s H who)) (first_no None (votes_for who (at_home s H who)))) []
+    if started_for who (at_home s H who) && all_voted (votes_for who (at_home s H who)) (participants s who) then vote_abort s H who (votes_for who (at_home s H who)) (first_no None (votes_for who (at_home s H who))) else []
 
 abbrev pub turns : Setting → List Entry → TxnId → ℕ → List AbortLine
 turns s H x zero = []

@@ -1,5 +1,5 @@
 -- The transactions that hold or wait for locks at a node.
-use Rattle.std.specs.Prelude.{ℕ, List, [], ◌∷◌, filter, Bool, cond, ◌&&◌, not}
+use Rattle.std.specs.Prelude.{ℕ, List, [], ◌∷◌, filter, Bool, ◌&&◌, not, if◌then◌else◌}
 use Rattle.std.specs.List.{list_all, flat_map}
 use Rattle.deneva_base.specs.declared.numbers.TxnId.{TxnId}
 use Rattle.server_core.specs.declared.messages.Msg.{Msg}
@@ -25,7 +25,7 @@ without x xs = filter (λ y. not (id_eq y x)) xs
 -- what comes after the first part for which the test holds
 abbrev pub past : {A : Type 0} → (A → Bool) → List A → List A
 past f [] = []
-past f (x ∷ xs) = cond (f x) (past f xs) (x ∷ xs)
+past f (x ∷ xs) = if f x then past f xs else x ∷ xs
 
 -- the transactions of the batches that are taken with m
 abbrev pub newly_taken : Setting → Msg → List Msg → List TxnId

@@ -1,5 +1,5 @@
 -- What a node of Calvin says, and what is in flight at the start.
-use Rattle.std.specs.Prelude.{ℕ, suc, List, [], ◌∷◌, ◌++◌, map, filter, cond, ◌&&◌, not, ltb}
+use Rattle.std.specs.Prelude.{ℕ, suc, List, [], ◌∷◌, ◌++◌, map, filter, ◌&&◌, not, nat_lt, if◌then◌else◌}
 use Rattle.std.specs.List.{flat_map}
 use Rattle.deneva_base.specs.declared.numbers.TxnId.{TxnId}
 use Rattle.txn_program.specs.Transactions.{numbers_below}
@@ -27,7 +27,7 @@ finished_mail s p x = record { from = p; to = home s x; msg = Finished x p (numb
 
 -- the transaction whose last Rows came is finished at p
 abbrev pub finished_mails : Setting → ℕ → TxnId → Msg → List Msg → List Mail
-finished_mails s p x m ms = cond (is_finished s (m ∷ ms) x && not (is_finished s ms x)) (finished_mail s p x ∷ []) []
+finished_mails s p x m ms = if is_finished s (m ∷ ms) x && not (is_finished s ms x) then finished_mail s p x ∷ [] else []
 
 abbrev pub tick_mail : ℕ → ℕ → Mail
 tick_mail p e = record { from = p; to = p; msg = Tick e }
@@ -38,11 +38,11 @@ batch_mails s p e = to_all p (Batch e p (batch s (record { epoch = e; seq = p })
 -- on the last of its messages, which are listed with the newest first
 abbrev pub says : Setting → ℕ → List Msg → List Mail
 says s p [] = []
-says s p (Tick e ∷ ms) = batch_mails s p e ++ cond (ltb (suc e) (epochs s)) (tick_mail p (suc e) ∷ []) []
+says s p (Tick e ∷ ms) = batch_mails s p e ++ (if nat_lt (suc e) (epochs s) then tick_mail p (suc e) ∷ [] else [])
 says s p (Batch e q ids ∷ ms) = ready_mails s p (Batch e q ids) ms
 says s p (Rows x q rows ∷ ms) = finished_mails s p x (Rows x q rows) ms ++ ready_mails s p (Rows x q rows) ms
 says s p (m ∷ ms) = []
 
 -- Tick 0 at each node, where there is an epoch
 abbrev pub opening : Setting → List Mail
-opening s = cond (ltb 0 (epochs s)) (map (λ p. tick_mail p 0) (numbers_below s.parts)) []
+opening s = if nat_lt 0 (epochs s) then map (λ p. tick_mail p 0) (numbers_below s.parts) else []

@@ -1,5 +1,5 @@
 -- What a node of Calvin knows by its messages, the newest first.
-use Rattle.std.specs.Prelude.{ℕ, zero, suc, List, [], ◌∷◌, map, filter, Bool, false, cond, ◌&&◌, ◌||◌, not, eqb, None}
+use Rattle.std.specs.Prelude.{ℕ, zero, suc, List, [], ◌∷◌, map, filter, Bool, false, ◌&&◌, ◌||◌, not, None, if◌then◌else◌, ◌==◌}
 use Rattle.std.specs.List.{list_any, list_all, flat_map}
 use Rattle.deneva_base.specs.Keys.{key_eq, id_eq}
 use Rattle.deneva_base.specs.Modes.{writes}
@@ -18,11 +18,11 @@ use Rattle.server_core.specs.declared.messages.Msg.TheVariants as msg
 
 -- x takes part at p
 abbrev pub takes_part : Setting → TxnId → ℕ → Bool
-takes_part s x p = list_any (λ a. eqb (partition_of a.key s.parts) p) (s.accesses x)
+takes_part s x p = list_any (λ a. partition_of a.key s.parts == p) (s.accesses x)
 
 -- two accesses to one key at p, not both Read
 abbrev pub collide : ℕ → ℕ → Access → Access → Bool
-collide parts p a b = key_eq a.key b.key && (eqb (partition_of a.key parts) p && (writes a.mode || writes b.mode))
+collide parts p a b = key_eq a.key b.key && (partition_of a.key parts == p && (writes a.mode || writes b.mode))
 
 -- two transactions conflict on a key at p
 abbrev pub clash : Setting → ℕ → TxnId → TxnId → Bool
@@ -30,29 +30,29 @@ clash s p x y = list_any (λ a. list_any (collide s.parts p a) (s.accesses y)) (
 
 -- the accesses of x at q that read
 abbrev pub reading_at : Setting → ℕ → TxnId → List Access
-reading_at s q x = filter (λ a. eqb (partition_of a.key s.parts) q) (reading (s.accesses x))
+reading_at s q x = filter (λ a. partition_of a.key s.parts == q) (reading (s.accesses x))
 
 -- the batch came
 abbrev pub has_batch : List Msg → Slot → Bool
 has_batch [] l = false
-has_batch (msg.Batch e q ids ∷ ms) l = (eqb e l.epoch && eqb q l.seq) || has_batch ms l
+has_batch (msg.Batch e q ids ∷ ms) l = (e == l.epoch && q == l.seq) || has_batch ms l
 has_batch (m ∷ ms) l = has_batch ms l
 
 -- the Rows of x from q came
 abbrev pub has_rows : List Msg → TxnId → ℕ → Bool
 has_rows [] x q = false
-has_rows (msg.Rows y r rows ∷ ms) x q = (id_eq y x && eqb r q) || has_rows ms x q
+has_rows (msg.Rows y r rows ∷ ms) x q = (id_eq y x && r == q) || has_rows ms x q
 has_rows (m ∷ ms) x q = has_rows ms x q
 
 abbrev pub rows_from : List Msg → TxnId → ℕ → List Keyed
 rows_from [] x q = []
-rows_from (msg.Rows y r rows ∷ ms) x q = cond (id_eq y x && eqb r q) rows (rows_from ms x q)
+rows_from (msg.Rows y r rows ∷ ms) x q = if id_eq y x && r == q then rows else rows_from ms x q
 rows_from (m ∷ ms) x q = rows_from ms x q
 
 -- the Finished of x from q came
 abbrev pub has_finished : List Msg → TxnId → ℕ → Bool
 has_finished [] x q = false
-has_finished (msg.Finished y r number ∷ ms) x q = (id_eq y x && eqb r q) || has_finished ms x q
+has_finished (msg.Finished y r number ∷ ms) x q = (id_eq y x && r == q) || has_finished ms x q
 has_finished (m ∷ ms) x q = has_finished ms x q
 
 abbrev pub ticks : List Msg → ℕ
@@ -63,7 +63,7 @@ ticks (m ∷ ms) = ticks ms
 -- the first of a list, as far as the test holds
 abbrev pub as_far : {A : Type 0} → (A → Bool) → List A → List A
 as_far f [] = []
-as_far f (x ∷ xs) = cond (f x) (x ∷ as_far f xs) []
+as_far f (x ∷ xs) = if f x then x ∷ as_far f xs else []
 
 -- the transactions of the batches that were taken: in their order, with none left out
 abbrev pub taken : Setting → List Msg → List TxnId
@@ -104,4 +104,4 @@ rows_at s p ms x = map (λ a. record { key = a.key; row = row_or_empty (now s p 
 
 -- those of the keys of p
 abbrev pub ordered_rows : Setting → ℕ → List Msg → Rows
-ordered_rows s p ms key = cond (eqb (partition_of key s.parts) p) (now s p ms key) None
+ordered_rows s p ms key = if partition_of key s.parts == p then now s p ms key else None

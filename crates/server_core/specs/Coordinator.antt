@@ -1,5 +1,5 @@
 -- What the coordinator of a node says on the last of its messages.
-use Rattle.std.specs.Prelude.{ℕ, suc, ◌+◌, ◌^◌, List, [], ◌∷◌, length, map, reverse, filter, slice_get, cond, not, ◌&&◌, eqb, ltb, leb, Option, Some, None}
+use Rattle.std.specs.Prelude.{ℕ, suc, ◌+◌, ◌^◌, List, [], ◌∷◌, length, map, reverse, filter, slice_get, not, ◌&&◌, nat_lt, nat_le, Option, Some, None, if◌then◌else◌, ◌==◌}
 use Rattle.deneva_base.specs.declared.numbers.TxnId.{TxnId}
 use Rattle.deneva_base.specs.declared.numbers.Attempt.{Attempt}
 use Rattle.deneva_base.specs.Modes.{reads}
@@ -27,13 +27,13 @@ asked_parts s ms who = parts_of s.parts (take_first (suc (length (grants_for who
 
 -- the partitions to which its end was said: those asked after a refusal, else the participants
 abbrev pub told : Setting → List Msg → Attempt → List ℕ
-told s ms who = cond (refused_for who ms) (asked_parts s ms who) (parts_of s.parts (s.accesses who.txn))
+told s ms who = if refused_for who ms then asked_parts s ms who else parts_of s.parts (s.accesses who.txn)
 
 -- each transaction that is over made room for one more
 abbrev pub overs : Setting → List Msg → ℕ
 overs s [] = 0
-overs s (Done who part ∷ ms) = cond (all_closed (part ∷ closes_for who ms) (told s ms who)) (suc (overs s ms)) (overs s ms)
-overs s (Undone who part ∷ ms) = cond (all_closed (part ∷ closes_for who ms) (told s ms who) && not (ltb who.turn s.attempts)) (suc (overs s ms)) (overs s ms)
+overs s (Done who part ∷ ms) = if all_closed (part ∷ closes_for who ms) (told s ms who) then suc (overs s ms) else overs s ms
+overs s (Undone who part ∷ ms) = if all_closed (part ∷ closes_for who ms) (told s ms who) && not (nat_lt who.turn s.attempts) then suc (overs s ms) else overs s ms
 overs s (m ∷ ms) = overs s ms
 
 abbrev pub mail_start : ℕ → Option TxnId → List Mail
@@ -47,12 +47,12 @@ abbrev pub ask_of : Setting → ℕ → Attempt → ℕ → Access → Mail
 ask_of s p who stamp a = record { from = p; to = partition_of a.key s.parts; msg = Ask who stamp a.key a.mode }
 
 abbrev pub at_part : ℕ → ℕ → List Keyed → List Keyed
-at_part parts q ws = filter (λ w. eqb (partition_of w.key parts) q) ws
+at_part parts q ws = filter (λ w. partition_of w.key parts == q) ws
 
 -- the greatest bound, and the first access with it
 abbrev pub greatest_bound : Bound → List Reply → Bound
 greatest_bound b [] = b
-greatest_bound b (r ∷ rs) = greatest_bound (cond (ltb b.n r.bound) (record { n = r.bound; key = r.key }) b) rs
+greatest_bound b (r ∷ rs) = greatest_bound (if nat_lt b.n r.bound then record { n = r.bound; key = r.key } else b) rs
 
 abbrev pub bound_of : List Reply → Bound
 bound_of [] = record { n = 0; key = record { table = 0; a = 0; b = 0; c = 0 } }
@@ -65,7 +65,7 @@ prepare_to s p who bound e q = record { from = p; to = q; msg = Prepare who boun
 abbrev pub reads_of : List Access → List Reply → List Keyed
 reads_of [] rs = []
 reads_of (a ∷ more) [] = []
-reads_of (a ∷ more) (r ∷ rs) = cond (reads a.mode) (record { key = a.key; row = r.row } ∷ reads_of more rs) (reads_of more rs)
+reads_of (a ∷ more) (r ∷ rs) = if reads a.mode then record { key = a.key; row = r.row } ∷ reads_of more rs else reads_of more rs
 
 abbrev pub effect_of : Setting → TxnId → List Reply → Effect
 effect_of s x rs = s.effect x (reads_of (s.accesses x) rs)
@@ -79,7 +79,7 @@ next_ask s p who stamp rs None =
 abbrev pub no_in : Option (ℕ × Cause) → ℕ → Vote → Option (ℕ × Cause)
 no_in best part (VotesYes lo hi) = best
 no_in None part (VotesNo cause) = Some (part, cause)
-no_in (Some x) part (VotesNo cause) = cond (ltb part x.0) (Some (part, cause)) (Some x)
+no_in (Some x) part (VotesNo cause) = if nat_lt part x.0 then Some (part, cause) else Some x
 
 abbrev pub first_no : Option (ℕ × Cause) → List Ballot → Option (ℕ × Cause)
 first_no best [] = best
@@ -101,14 +101,14 @@ least_hi bs = least_by (λ b. hi_of b.vote) bs
 
 abbrev pub decision : Attempt → List Ballot → Option (ℕ × Cause) → Msg
 decision who bs (Some x) = Abort who
-decision who bs None = cond (leb (greatest_lo bs) (least_hi bs)) (Commit who (record { n = greatest_lo bs; id = who.txn })) (Abort who)
+decision who bs None = if nat_le (greatest_lo bs) (least_hi bs) then Commit who (record { n = greatest_lo bs; id = who.txn }) else Abort who
 
 abbrev pub to_all : ℕ → Msg → List ℕ → List Mail
 to_all p m qs = map (λ q. record { from = p; to = q; msg = m }) qs
 
 -- after a vote: nothing until every participant has voted
 abbrev pub polled : Setting → ℕ → Attempt → List Ballot → List Mail
-polled s p who bs = cond (all_voted bs (parts_of s.parts (s.accesses who.txn))) (to_all p (decision who bs (first_no None bs)) (parts_of s.parts (s.accesses who.txn))) []
+polled s p who bs = if all_voted bs (parts_of s.parts (s.accesses who.txn)) then to_all p (decision who bs (first_no None bs)) (parts_of s.parts (s.accesses who.txn)) else []
 
 -- the coordinator, on the last message with those before it
 abbrev pub coordinator : Setting → ℕ → Msg → List Msg → List Mail
@@ -119,11 +119,9 @@ coordinator s p (Refused who key cause) ms = to_all p (Abort who) (asked_parts s
 coordinator s p (Yes who part lo hi) ms = polled s p who (record { part = part; vote = VotesYes lo hi } ∷ votes_for who ms)
 coordinator s p (No who part cause) ms = polled s p who (record { part = part; vote = VotesNo cause } ∷ votes_for who ms)
 coordinator s p (Done who part) ms =
-    cond (all_closed (part ∷ closes_for who ms) (told s ms who)) (next_start s p (overs s ms)) []
+    if all_closed (part ∷ closes_for who ms) (told s ms who) then next_start s p (overs s ms) else []
 coordinator s p (Undone who part) ms =
-    cond (all_closed (part ∷ closes_for who ms) (told s ms who))
-    (cond (ltb who.turn s.attempts)
-    (record { from = p; to = p; msg = Start (record { txn = who.txn; turn = suc who.turn }) } ∷ [])
-    (next_start s p (overs s ms)))
-    []
+    if all_closed (part ∷ closes_for who ms) (told s ms who) then if nat_lt who.turn s.attempts then record { from = p; to = p; msg = Start (record { txn = who.txn; turn = suc who.turn }) } ∷ []
+    else next_start s p (overs s ms)
+    else []
 coordinator s p m ms = []

@@ -1,5 +1,5 @@
 -- How many mails and messages pass a test.
-use Rattle.std.specs.Prelude.{ℕ, ◌+◌, List, [], ◌∷◌, ◌++◌, Bool, cond}
+use Rattle.std.specs.Prelude.{ℕ, ◌+◌, List, [], ◌∷◌, ◌++◌, Bool, if◌then◌else◌}
 use Rattle.server_core.specs.declared.messages.Msg.{Msg}
 use Rattle.server_core.specs.declared.messages.Mail.{Mail}
 use Rattle.server_core.specs.Runs.{Saying}
@@ -12,9 +12,9 @@ all_said says p (m ∷ ms) = says p (m ∷ ms) ++ all_said says p ms
 -- how many mails pass the test
 abbrev pub count : (Mail → Bool) → List Mail → ℕ
 count t [] = 0
-count t (x ∷ xs) = cond (t x) 1 0 + count t xs
+count t (x ∷ xs) = (if t x then 1 else 0) + count t xs
 
 -- how many messages pass the test
 abbrev pub count_msgs : (Msg → Bool) → List Msg → ℕ
 count_msgs t [] = 0
-count_msgs t (m ∷ ms) = cond (t m) 1 0 + count_msgs t ms
+count_msgs t (m ∷ ms) = (if t m then 1 else 0) + count_msgs t ms

@@ -1,5 +1,5 @@
 -- Calvin's global order: epochs of eight transactions for each sequencer.
-use Rattle.std.specs.Prelude.{ℕ, zero, suc, ◌+◌, ◌*◌, ◌/◌, ◌%◌, List, [], ◌∷◌, length, map, Bool, false, cond, ◌||◌}
+use Rattle.std.specs.Prelude.{ℕ, zero, suc, ◌+◌, ◌*◌, ◌/◌, ◌%◌, List, [], ◌∷◌, length, map, Bool, false, ◌||◌, if◌then◌else◌}
 use Rattle.std.specs.List.{flat_map}
 use Rattle.deneva_base.specs.Keys.{id_eq}
 use Rattle.deneva_base.specs.Lists.{greatest_by}
@@ -42,7 +42,7 @@ order s = flat_map (batch s) (slots s)
 -- how many stand before the first x
 abbrev pub index_of : TxnId → List TxnId → ℕ
 index_of x [] = 0
-index_of x (y ∷ ys) = cond (id_eq y x) 0 (suc (index_of x ys))
+index_of x (y ∷ ys) = if id_eq y x then 0 else suc (index_of x ys)
 
 -- the number of the transaction at index i of epoch e at sequencer q
 abbrev pub numbered : ℕ → ℕ → ℕ → ℕ → ℕ
@@ -57,7 +57,7 @@ number s x = number_at s x (home s x) (index_of x (homes s (home s x)))
 -- those before x
 abbrev pub before : TxnId → List TxnId → List TxnId
 before x [] = []
-before x (y ∷ ys) = cond (id_eq y x) [] (y ∷ before x ys)
+before x (y ∷ ys) = if id_eq y x then [] else y ∷ before x ys
 
 abbrev pub has_id : TxnId → List TxnId → Bool
 has_id x [] = false

@@ -1,5 +1,5 @@
 -- How long a run is at most, and how its numbers grow.
-use Rattle.std.specs.Prelude.{⊤, ℕ, ◌+◌, ◌*◌, ◌^◌, ◌<◌, ◌≤◌, List, [], ◌∷◌, length, Bool, false, cond}
+use Rattle.std.specs.Prelude.{⊤, ℕ, ◌+◌, ◌*◌, ◌^◌, ◌<◌, ◌≤◌, List, [], ◌∷◌, length, Bool, false, if◌then◌else◌}
 use Rattle.deneva_base.specs.declared.numbers.TxnId.{TxnId}
 use Rattle.deneva_base.specs.declared.numbers.Attempt.{Attempt}
 use Rattle.deneva_base.specs.Keys.{attempt_eq}
@@ -26,7 +26,7 @@ is_of who m = false
 
 abbrev pub count_entries : (Entry → Bool) → List Entry → ℕ
 count_entries t [] = 0
-count_entries t (e ∷ H) = cond (t e) 1 0 + count_entries t H
+count_entries t (e ∷ H) = (if t e then 1 else 0) + count_entries t H
 
 -- an attempt's entries are at most so many
 abbrev pub most_of : Setting → TxnId → ℕ

@@ -1,6 +1,6 @@
 -- Which transactions a run decided and which it gave up, by what their homes handled. The entries stand with the newest
 -- first.
-use Rattle.std.specs.Prelude.{ℕ, List, [], ◌∷◌, map, reverse, filter, Bool, cond, Option, Some, None}
+use Rattle.std.specs.Prelude.{ℕ, List, [], ◌∷◌, map, reverse, filter, Bool, Option, Some, None, if◌then◌else◌}
 use Rattle.std.specs.List.{flat_map, list_all}
 use Rattle.deneva_base.specs.Keys.{attempt_eq, number_lt}
 use Rattle.deneva_base.specs.Lists.{insert, sort}
@@ -34,7 +34,7 @@ decided_as s x n read = record {
 
 -- the n of the attempt's Commit
 abbrev pub n_in : Attempt → ℕ → Msg → ℕ
-n_in who old (Commit x number) = cond (attempt_eq x who) number.n old
+n_in who old (Commit x number) = if attempt_eq x who then number.n else old
 n_in who old m = old
 
 abbrev pub committed_n : Attempt → List Entry → ℕ
@@ -68,7 +68,7 @@ sort_lines ls = sort stands_before ls
 
 -- a transaction whose last attempt has all its Undone is given up
 abbrev pub giveups_of : Setting → List Entry → List Giveup
-giveups_of s H = flat_map (λ x. cond (all_undone s H (attempt x s.attempts)) (record { id = x; turns = s.attempts } ∷ []) []) s.ids
+giveups_of s H = flat_map (λ x. if all_undone s H (attempt x s.attempts) then record { id = x; turns = s.attempts } ∷ [] else []) s.ids
 
 -- Under Calvin.
 

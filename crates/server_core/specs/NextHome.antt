@@ -1,5 +1,5 @@
 -- Which home transaction a node begins when another one is decided or given up.
-use Rattle.std.specs.Prelude.{◌≡◌, ℕ, ◌<◌, List, [], ◌∷◌, Bool, cond, not, Option, Some, None}
+use Rattle.std.specs.Prelude.{◌≡◌, ℕ, ◌<◌, List, [], ◌∷◌, Bool, not, Option, Some, None, if◌then◌else◌}
 use Rattle.deneva_base.specs.declared.numbers.TxnId.{TxnId}
 use Rattle.server_core.specs.Coordinator.{mail_start, next_start, overs}
 use Rattle.server_core.specs.RunAccount.{starts_txn, was_said}
@@ -10,7 +10,7 @@ use Rattle.server_core.specs.declared.messages.Entry.{Entry}
 -- the first of a list that passes
 abbrev pub first_that : (TxnId → Bool) → List TxnId → Option TxnId
 first_that t [] = None
-first_that t (x ∷ xs) = cond (t x) (Some x) (first_that t xs)
+first_that t (x ∷ xs) = if t x then Some x else first_that t xs
 
 -- the first home transaction of a node, in file order, of which no attempt is begun
 abbrev pub next_home : Setting → List Entry → ℕ → Option TxnId

@@ -1,5 +1,5 @@
 -- What each mail that a node says looks like, and what is known of the setting.
-use Rattle.std.specs.Prelude.{◌≡◌, ⊤, ℕ, ◌+◌, ◌≤◌, List, [], ◌∷◌, length, true, cond, eqb, Some}
+use Rattle.std.specs.Prelude.{◌≡◌, ⊤, ℕ, ◌+◌, ◌≤◌, List, [], ◌∷◌, length, true, Some, if◌then◌else◌, ◌==◌}
 use Rattle.deneva_base.specs.declared.keys.Key.{Key}
 use Rattle.deneva_base.specs.declared.numbers.TxnId.{TxnId}
 use Rattle.deneva_base.specs.declared.keys.Mode.{Mode}
@@ -44,11 +44,11 @@ Proper s p x = (x.from ≡ p) × ProperMsg s p x.to x.msg
 -- how often the key is among the accesses
 abbrev pub keys_in : Key → List Access → ℕ
 keys_in key [] = 0
-keys_in key (a ∷ as') = cond (key_eq a.key key) 1 0 + keys_in key as'
+keys_in key (a ∷ as') = (if key_eq a.key key then 1 else 0) + keys_in key as'
 
 abbrev pub ids_in : TxnId → List TxnId → ℕ
 ids_in x [] = 0
-ids_in x (y ∷ ys) = cond (eqb y.0 x.0) 1 0 + ids_in x ys
+ids_in x (y ∷ ys) = (if y.0 == x.0 then 1 else 0) + ids_in x ys
 
 -- the replies to accesses that read hold rows well formed for their keys
 abbrev pub FineReplies : Setting → List Access → List Reply → Type 0

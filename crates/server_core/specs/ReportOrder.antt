@@ -1,5 +1,5 @@
 -- The order in which an outcome lists its lines.
-use Rattle.std.specs.Prelude.{◌≡◌, List, [], ◌∷◌, Bool, true, ◌&&◌, map, ltb}
+use Rattle.std.specs.Prelude.{◌≡◌, List, [], ◌∷◌, Bool, true, ◌&&◌, map, nat_lt}
 use Rattle.deneva_base.specs.Keys.{attempt_lt, number_lt}
 use Rattle.deneva_base.specs.Rising.{keys_rise}
 use Rattle.deneva_base.specs.declared.numbers.TxnId.{TxnId}
@@ -16,7 +16,7 @@ rise before [] = true
 rise before (x ∷ xs) = rise_from before x xs
 
 abbrev pub id_lt : TxnId → TxnId → Bool
-id_lt x y = ltb x.0 y.0
+id_lt x y = nat_lt x.0 y.0
 
 -- the decided transactions stand by number, the given-up ones by id, the aborted attempts by id and turn, the rows by key,
 -- and none stands twice

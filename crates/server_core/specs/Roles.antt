@@ -1,5 +1,5 @@
 -- Which node of which run a server is.
-use Rattle.std.specs.Prelude.{ℕ, List, eqb}
+use Rattle.std.specs.Prelude.{ℕ, List, ◌==◌}
 use Rattle.std.specs.List.{filter}
 use Rattle.deneva_base.specs.Partitions.{partition_of}
 use Rattle.deneva_base.specs.Rows.{Rows}
@@ -30,7 +30,7 @@ setting_of r = setting r.config r.work.now
 
 -- the accesses of a transaction at a partition, in its order
 abbrev pub accesses_at : Setting → ℕ → TxnId → List Access
-accesses_at s p x = filter (λ a. eqb (partition_of a.key s.parts) p) (s.accesses x)
+accesses_at s p x = filter (λ a. partition_of a.key s.parts == p) (s.accesses x)
 
 -- the message, from this node, fits those that it has handled
 abbrev pub FitsRole : Role → ℕ → Msg → List Msg → Type 0

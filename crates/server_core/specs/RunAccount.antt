@@ -1,5 +1,5 @@
 -- The account of a run under a voting protocol: what is in flight for each attempt, waits, or was handled at its home.
-use Rattle.std.specs.Prelude.{◌≡◌, ℕ, ◌+◌, ◌<◌, ◌≤◌, List, [], ◌∷◌, ◌++◌, length, filter, Bool, true, false, cond, not, ◌&&◌, ◌||◌, eqb, Option, Some, None}
+use Rattle.std.specs.Prelude.{◌≡◌, ℕ, ◌+◌, ◌<◌, ◌≤◌, List, [], ◌∷◌, ◌++◌, length, filter, Bool, true, false, not, ◌&&◌, ◌||◌, Option, Some, None, if◌then◌else◌, ◌==◌}
 use Rattle.std.specs.List.{list_any, list_all, flat_map}
 use Rattle.deneva_base.specs.declared.numbers.TxnId.{TxnId}
 use Rattle.deneva_base.specs.declared.numbers.Attempt.{Attempt}
@@ -41,8 +41,8 @@ prepares_of who (Prepare x bound writes appends) = attempt_eq x who
 prepares_of who m = false
 
 abbrev pub votes_of : Attempt → ℕ → Msg → Bool
-votes_of who q (Yes x part lo hi) = attempt_eq x who && eqb part q
-votes_of who q (No x part cause) = attempt_eq x who && eqb part q
+votes_of who q (Yes x part lo hi) = attempt_eq x who && part == q
+votes_of who q (No x part cause) = attempt_eq x who && part == q
 votes_of who q m = false
 
 abbrev pub ends_of : Attempt → Msg → Bool
@@ -51,8 +51,8 @@ ends_of who (Abort x) = attempt_eq x who
 ends_of who m = false
 
 abbrev pub closes_of : Attempt → ℕ → Msg → Bool
-closes_of who q (Done x part) = attempt_eq x who && eqb part q
-closes_of who q (Undone x part) = attempt_eq x who && eqb part q
+closes_of who q (Done x part) = attempt_eq x who && part == q
+closes_of who q (Undone x part) = attempt_eq x who && part == q
 closes_of who q m = false
 
 -- the mails of the opening, and all that the nodes said
@@ -65,7 +65,7 @@ was_said s H t = list_any (λ x. t x.msg) (all_mails s H)
 
 -- the partitions to which one was said
 abbrev pub said_to : Setting → List Entry → (Msg → Bool) → List ℕ
-said_to s H t = filter (λ q. list_any (λ x. t x.msg && eqb x.to q) (all_mails s H)) (numbers_below s.parts)
+said_to s H t = filter (λ q. list_any (λ x. t x.msg && x.to == q) (all_mails s H)) (numbers_below s.parts)
 
 -- how many mails in flight pass, to whatever node
 abbrev pub in_flight : List Mail → (Msg → Bool) → ℕ
@@ -73,12 +73,12 @@ in_flight flight t = count (λ x. t x.msg) flight
 
 -- and to q
 abbrev pub flying : List Mail → ℕ → (Msg → Bool) → ℕ
-flying flight q t = count (λ x. t x.msg && eqb x.to q) flight
+flying flight q t = count (λ x. t x.msg && x.to == q) flight
 
 -- how many accesses of the attempt are among those that wait, and how many wait at all partitions
 abbrev pub waiting_of : Attempt → List Asked → ℕ
 waiting_of who [] = 0
-waiting_of who (a ∷ as') = cond (attempt_eq a.who who) 1 0 + waiting_of who as'
+waiting_of who (a ∷ as') = (if attempt_eq a.who who then 1 else 0) + waiting_of who as'
 
 abbrev pub waiting : Setting → List Entry → Attempt → ℕ
 waiting s H who = sum_of (λ q. waiting_of who (waits (calls s q (heard q H)))) (numbers_below s.parts)

@@ -1,5 +1,5 @@
 -- Runs of nodes that say something on each of their messages. The newest entry stands first.
-use Rattle.std.specs.Prelude.{◌≡◌, ℕ, List, [], ◌∷◌, ◌++◌, length, cond, eqb}
+use Rattle.std.specs.Prelude.{◌≡◌, ℕ, List, [], ◌∷◌, ◌++◌, length, if◌then◌else◌, ◌==◌}
 use Rattle.deneva_base.specs.Lists.{IsIn}
 use Rattle.server_core.specs.declared.messages.Msg.{Msg}
 use Rattle.server_core.specs.declared.messages.Mail.{Mail}
@@ -14,7 +14,7 @@ entry_of place m = record { place = place; from = m.from; node = m.to; msg = m.m
 
 abbrev pub heard : ℕ → List Entry → List Msg
 heard p [] = []
-heard p (e ∷ H) = cond (eqb e.node p) (e.msg ∷ heard p H) (heard p H)
+heard p (e ∷ H) = if e.node == p then e.msg ∷ heard p H else heard p H
 
 -- one mail is taken out of the middle, the first of its like
 pub record Step (before after : List Mail) (m : Mail) (said : List Mail) : Type 0 where

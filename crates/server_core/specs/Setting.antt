@@ -1,5 +1,5 @@
 -- What a run takes of its configuration and its workload.
-use Rattle.std.specs.Prelude.{ℕ, zero, suc, List, [], ◌∷◌, filter, Bool, true, cond, eqb, Option, Some, None}
+use Rattle.std.specs.Prelude.{ℕ, zero, suc, List, [], ◌∷◌, filter, Bool, true, Option, Some, None, if◌then◌else◌, ◌==◌}
 use Rattle.deneva_base.specs.declared.answers.Answer.TheVariants.{Waits}
 use Rattle.deneva_base.specs.declared.answers.Vote.TheVariants.{Yes}
 use Rattle.deneva_base.specs.declared.config.Config.{Config}
@@ -65,7 +65,7 @@ setting c w = record {
 
 -- the rows that were loaded at p
 abbrev pub loaded_at : Setting → ℕ → Rows
-loaded_at s p k = cond (eqb (partition_of k s.parts) p) (s.loaded k) None
+loaded_at s p k = if partition_of k s.parts == p then s.loaded k else None
 
 abbrev pub rule_at : Setting → ℕ → Rule
 rule_at s p = s.rule (loaded_at s p)
@@ -81,7 +81,7 @@ home s x = home_in s.parts (s.accesses x)
 
 -- the home transactions of a node, in file order
 abbrev pub homes : Setting → ℕ → List TxnId
-homes s p = filter (λ x. eqb (home s x) p) s.ids
+homes s p = filter (λ x. home s x == p) s.ids
 
 -- the partitions at which a transaction takes part
 abbrev pub parts_for : Setting → TxnId → List ℕ

@@ -1,5 +1,5 @@
 -- Under a voting protocol, a transaction commits at all its participants or at none.
-use Rattle.std.specs.Prelude.{◌≡◌, ◌⊎◌, ℕ, ◌≤◌, List, Bool, false, eqb}
+use Rattle.std.specs.Prelude.{◌≡◌, ◌⊎◌, ℕ, ◌≤◌, List, Bool, false, ◌==◌}
 use Rattle.deneva_base.specs.declared.numbers.TxnId.{TxnId}
 use Rattle.deneva_base.specs.declared.numbers.Attempt.{Attempt}
 use Rattle.deneva_base.specs.declared.numbers.Number.{Number}
@@ -24,7 +24,7 @@ abbrev pub Everywhere : Setting → List Entry → Type 0
 Everywhere s H = (a : Attempt) (n : Number) (p q : ℕ) → IsIn (Commit a n) (heard p H) → IsIn q (participants s a) → IsIn (Commit a n) (heard q H)
 
 abbrev pub commits : TxnId → Msg → Bool
-commits x (Commit a n) = eqb a.txn.0 x.0
+commits x (Commit a n) = a.txn.0 == x.0
 commits x m = false
 
 -- one Commit at each participant and none elsewhere, all of one attempt and one number in each window voted

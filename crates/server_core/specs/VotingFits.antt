@@ -1,5 +1,5 @@
 -- Which message of a voting protocol fits the messages that a node has handled, by its kind.
-use Rattle.std.specs.Prelude.{◌≡◌, ◌⊎◌, ⊤, ℕ, zero, suc, ◌<◌, ◌≤◌, eqb, List, [], ◌∷◌, length, slice_get, true, false, Some, None}
+use Rattle.std.specs.Prelude.{◌≡◌, ◌⊎◌, ⊤, ℕ, zero, suc, ◌<◌, ◌≤◌, List, [], ◌∷◌, length, slice_get, true, false, Some, None, ◌==◌}
 use Rattle.std.specs.List.{list_any}
 use Rattle.deneva_base.specs.declared.keys.Key.{Key}
 use Rattle.deneva_base.specs.declared.numbers.Attempt.{Attempt}
@@ -44,7 +44,7 @@ abbrev pub Decides : Setting → List Msg → Attempt → Msg → Type 0
 Decides s ms who m = Polled s ms who × (decision who (votes_for who ms) (first_no None (votes_for who ms)) ≡ m)
 
 abbrev pub HasVoted : List Msg → Attempt → ℕ → Type 0
-HasVoted ms who part = list_any (λ (b : Ballot). eqb b.part part) (votes_for who ms) ≡ true
+HasVoted ms who part = list_any (λ (b : Ballot). b.part == part) (votes_for who ms) ≡ true
 
 abbrev pub IsAborted : Setting → List Msg → Attempt → Type 0
 IsAborted s ms who = (refused_for who ms ≡ true) ⊎ Decides s ms who (Abort who)

@@ -1,5 +1,5 @@
 -- What an attempt has here, and what the calls add to it.
-use Rattle.std.specs.Prelude.{ℕ, List, [], ◌∷◌, Bool, cond}
+use Rattle.std.specs.Prelude.{ℕ, List, [], ◌∷◌, Bool, if◌then◌else◌}
 use Rattle.std.specs.Ordering.{match_ordering}
 use Rattle.deneva_base.specs.declared.keys.Key.{Key}
 use Rattle.deneva_base.specs.declared.rows.Keyed.{Keyed}
@@ -22,4 +22,4 @@ with_rows writes copies appends p = record { stamp = p.stamp; keys = p.keys; wri
 
 -- what a control wants back of the rows that an attempt writes: all, or none
 abbrev pub copies_of : Bool → List Keyed → List Keyed
-copies_of copied rows = cond copied rows []
+copies_of copied rows = if copied then rows else []

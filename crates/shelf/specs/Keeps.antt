@@ -1,5 +1,5 @@
 -- The half of a control's relation that is the shelf's.
-use Rattle.std.specs.Prelude.{◌≡◌, ◌≢◌, ◌⊎◌, ℕ, ◌+◌, ◌≤◌, List, [], ◌∷◌, length, Bool, cond, Some, option_map, true, ⊤}
+use Rattle.std.specs.Prelude.{◌≡◌, ◌≢◌, ◌⊎◌, ℕ, ◌+◌, ◌≤◌, List, [], ◌∷◌, length, Bool, Some, option_map, true, ⊤, if◌then◌else◌}
 use Rattle.deneva_base.specs.declared.keys.Key.{Key}
 use Rattle.deneva_base.specs.declared.numbers.Attempt.{Attempt}
 use Rattle.deneva_base.specs.Keys.{key_lt}
@@ -26,7 +26,7 @@ version_of v = record { number = v.number; row = v.row }
 -- how many rows are appended by attempts that voted Yes and have not ended
 abbrev pub promised_in : History → List Yea → ℕ
 promised_in h [] = 0
-promised_in h (y ∷ ys) = cond (has_ended h y.who) 0 (length y.appends) + promised_in h ys
+promised_in h (y ∷ ys) = (if has_ended h y.who then 0 else length y.appends) + promised_in h ys
 
 -- the shelf has what the history gives, and a second copy of the rows that unended attempts write, if they are copied
 pub record KeepsRows (copied : Bool) (loaded : Rows) (s : Shelf) (h : History) : Type 0 where

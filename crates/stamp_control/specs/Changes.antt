@@ -1,5 +1,5 @@
 -- What the calls of a table answer and change.
-use Rattle.std.specs.Prelude.{◌≡◌, ℕ, ◌+◌, List, [], ◌∷◌, Bool, true, ◌&&◌, ltb, cond, Option, Some, None}
+use Rattle.std.specs.Prelude.{◌≡◌, ℕ, ◌+◌, List, [], ◌∷◌, Bool, true, ◌&&◌, nat_lt, Option, Some, None, if◌then◌else◌}
 use Rattle.std.specs.List.{list_any}
 use Rattle.deneva_base.specs.declared.keys.Key.{Key}
 use Rattle.deneva_base.specs.declared.keys.Mode.{Mode}
@@ -32,22 +32,22 @@ written_in (Some v) = v.number.n
 -- why an access of the stamp comes too late for a key that was written and read so late
 abbrev pub refusal_in : ℕ → Key → Mode → ℕ → ℕ → Option Cause
 refusal_in stamp key mode written read =
-    cond (reads mode && ltb stamp written) (Some (Written key written))
-    (cond (writes mode && ltb stamp read) (Some (ReadLater key read)) None)
+    if reads mode && nat_lt stamp written then Some (Written key written)
+    else if writes mode && nat_lt stamp read then Some (ReadLater key read) else None
 
 -- how many of the requests write
 abbrev pub writers_in : List Request → ℕ
 writers_in [] = 0
-writers_in (r ∷ rs) = cond (writes r.mode) 1 0 + writers_in rs
+writers_in (r ∷ rs) = (if writes r.mode then 1 else 0) + writers_in rs
 
 -- one of them waits above this number
 abbrev pub any_above : ℕ → List Request → Bool
-any_above n rs = list_any (λ r. r.waits && ltb n r.stamp) rs
+any_above n rs = list_any (λ r. r.waits && nat_lt n r.stamp) rs
 
 -- what is kept of a key once these rows came under a number, where these requests are for it
 abbrev pub kept_by : Number → List Keyed → List Request → Key → Kept → Kept
 kept_by number [] rs key p = p
-kept_by number (w ∷ ws) rs key p = kept_by number ws rs key (cond (key_eq w.key key && any_above number.n rs) (with_version (record { number = number; row = w.row }) p) p)
+kept_by number (w ∷ ws) rs key p = kept_by number ws rs key (if key_eq w.key key && any_above number.n rs then with_version (record { number = number; row = w.row }) p else p)
 
 -- a table of this store, on which nothing was called
 pub record IsFresh (store : Seen) (t : Table) : Type 0 where

@@ -1,5 +1,5 @@
 -- What is kept of a key besides its latest row.
-use Rattle.std.specs.Prelude.{◌≡◌, ℕ, ◌-◌, ◌≤◌, max, List, [], ◌∷◌, ◌++◌, Bool, true, false, ◌&&◌, cond, Option, Some, None, vec_len, vec_capacity}
+use Rattle.std.specs.Prelude.{◌≡◌, ℕ, ◌-◌, ◌≤◌, max, List, [], ◌∷◌, ◌++◌, Bool, true, false, ◌&&◌, Option, Some, None, vec_len, vec_capacity, if◌then◌else◌}
 use Rattle.std.specs.Map.{lookup}
 use Rattle.deneva_base.specs.declared.keys.Key.{Key}
 use Rattle.deneva_base.specs.declared.keys.Mode.{Mode}
@@ -45,15 +45,15 @@ is_numbered number None = false
 is_numbered number (Some v) = number_eq v.number number
 
 abbrev pub with_latest : ℕ → Version → Kept → Kept
-with_latest stamp v p = cond (is_numbered v.number (pick stamp p.versions)) p (with_version v p)
+with_latest stamp v p = if is_numbered v.number (pick stamp p.versions) then p else with_version v p
 
 -- once an access of the stamp has read the key
 abbrev pub raised : ℕ → Kept → Kept
-raised stamp p = cond p.present (record { read = max p.read stamp; versions = p.versions; spare = p.spare; present = true }) p
+raised stamp p = if p.present then record { read = max p.read stamp; versions = p.versions; spare = p.spare; present = true } else p
 
 -- what is kept of `other` once an access to the key was granted
 abbrev pub granted_at : Key → ℕ → Mode → Key → Kept → Kept
-granted_at key stamp mode other p = cond (same_key key other && reads mode) (raised stamp p) p
+granted_at key stamp mode other p = if same_key key other && reads mode then raised stamp p else p
 
 -- once these were
 abbrev pub all_granted_at : List Waiter → Key → Kept → Kept
@@ -62,7 +62,7 @@ all_granted_at (w ∷ ws) key p = all_granted_at ws key (granted_at w.key w.stam
 
 -- new has at the key what is said, and at every other key what old has
 abbrev pub SetsPast : Pasts → Key → Kept → Pasts → Type 0
-SetsPast old key p new = (other : Key) → past_at new other ≡ cond (same_key key other) p (past_at old other)
+SetsPast old key p new = (other : Key) → past_at new other ≡ (if same_key key other then p else past_at old other)
 
 -- at most there is more room
 pub record Wider (old new : Kept) : Type 0 where

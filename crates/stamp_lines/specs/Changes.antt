@@ -1,5 +1,5 @@
 -- What the calls change.
-use Rattle.std.specs.Prelude.{◌≡◌, ◌+◌, List, [], length, cond, Option}
+use Rattle.std.specs.Prelude.{◌≡◌, ◌+◌, List, [], length, Option, if◌then◌else◌}
 use Rattle.deneva_base.specs.declared.keys.Key.{Key}
 use Rattle.deneva_base.specs.declared.numbers.Attempt.{Attempt}
 use Rattle.deneva_base.specs.declared.numbers.Number.{Number}
@@ -28,7 +28,7 @@ pub record Same (old new : Accesses) : Type 0 where
 pub record Adds (key : Key) (asked : Request) (old new : Accesses) : Type 0 where
   pub shelf : Notes asked.who asked.stamp key old.shelf new.shelf
   pub lines : SetsLine old.lines key (put_request asked (requests_at old key)) new.lines
-  pub waiting : new.waiting ≡ old.waiting + cond asked.waits 1 0
+  pub waiting : new.waiting ≡ old.waiting + (if asked.waits then 1 else 0)
 
 -- the attempt's rows are kept, those that it writes twice
 pub record Promises (who : Attempt) (writes appends : List Keyed) (old new : Accesses) : Type 0 where

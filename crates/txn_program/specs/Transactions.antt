@@ -1,5 +1,5 @@
 -- A transaction as a function: its accesses, its effect on the rows that it reads, and its partitions.
-use Rattle.std.specs.Prelude.{ℕ, zero, suc, ◌==◌, eqb, pos, Bool, true, List, [], ◌∷◌, ◌++◌, map, slice_set, Option, Some, None, option_map}
+use Rattle.std.specs.Prelude.{ℕ, zero, suc, ◌==◌, pos, Bool, true, List, [], ◌∷◌, ◌++◌, map, slice_set, Option, Some, None, option_map}
 use Rattle.std.specs.List.{list_any, filter, filter_map}
 use Rattle.deneva_base.specs.Modes.{reads}
 use Rattle.deneva_base.specs.Partitions.{partition_of}
@@ -64,19 +64,19 @@ abbrev pub effect_at : ℕ → ℕ → Effect → Effect
 effect_at parts p e =
     record {
       verdict = e.verdict;
-      writes = filter (λ r. eqb (partition_of r.key parts) p) e.writes;
-      appends = filter (λ r. eqb (partition_of r.key parts) p) e.appends;
+      writes = filter (λ r. partition_of r.key parts == p) e.writes;
+      appends = filter (λ r. partition_of r.key parts == p) e.appends;
       answer = e.answer;
     }
 
 -- the same for one partition, and without one all of it
 abbrev pub is_within : Option Partition → Key → Bool
 is_within None key = true
-is_within (Some q) key = eqb (partition_of key q.parts) q.part
+is_within (Some q) key = partition_of key q.parts == q.part
 
 abbrev pub rows_within : Option Partition → List Keyed → List Keyed
 rows_within None rows = rows
-rows_within (Some q) rows = filter (λ r. eqb (partition_of r.key q.parts) q.part) rows
+rows_within (Some q) rows = filter (λ r. partition_of r.key q.parts == q.part) rows
 
 abbrev pub effect_within : Option Partition → Effect → Effect
 effect_within None e = e
