@@ -32,7 +32,7 @@ use Rattle.server_core.specs.Limits.{count_entries}
 use Rattle.server_core.specs.Picks.{Progress, deliveries, position, picked, most_entries}
 use Rattle.server_core.specs.Runs.{heard, Reaches}
 use Rattle.server_core.specs.Says.{IsRun, IsQuiet}
-use Rattle.server_core.specs.Setting.{Setting, setting, parts_for}
+use Rattle.server_core.specs.Setting.{Setting, setting, participants_for}
 use Rattle.server_core.specs.declared.messages.Entry.{Entry}
 use Rattle.server_core.specs.declared.messages.Mail.{Mail}
 use Rattle.server_core.specs.declared.outcomes.Decided.{Decided}
@@ -138,7 +138,7 @@ module _ (c : Config) (w : Workload) (is : c.protocol ≡ Calvin) (config : IsCo
   pub clock : (H : List Entry) (flight : List Mail) → IsRun c w H flight → count_entries (λ e. is_clock e.msg) H ≤ epochs s * (c.parts + c.parts * c.parts)
   clock H flight r = clock_most s v H flight (ordered_run H flight r)
 
-  pub each_entries : (H : List Entry) (flight : List Mail) (x : TxnId) → IsRun c w H flight → IsIn x (all_ids w) → let m = length (parts_for s x) in count_entries (λ e. is_about x e.msg) H ≤ m * m + m
+  pub each_entries : (H : List Entry) (flight : List Mail) (x : TxnId) → IsRun c w H flight → IsIn x (all_ids w) → let m = length (participants_for s x) in count_entries (λ e. is_about x e.msg) H ≤ m * m + m
   each_entries H flight x r i = each_most s v H flight (ordered_run H flight r) x i
 
   pub few_entries : (H : List Entry) (flight : List Mail) → IsRun c w H flight → length H ≤ 3060000
@@ -175,15 +175,15 @@ module _ (c : Config) (w : Workload) (is : c.protocol ≡ Calvin) (config : IsCo
     pub in_report_order : InReportOrder (outcome c w H)
     in_report_order = subst InReportOrder (sym outcome_is) (calvin_order c w H lines rise)
 
-    line_is : (rows : Rows) (xs : List TxnId) (l : Decided) → IsIn l (serial_lines s rows xs) → (x : TxnId) × IsIn x xs × ((l.number ≡ number s x) × (l.parts ≡ parts_for s x))
+    line_is : (rows : Rows) (xs : List TxnId) (l : Decided) → IsIn l (serial_lines s rows xs) → (x : TxnId) × IsIn x xs × ((l.number ≡ number s x) × (l.participants ≡ participants_for s x))
     line_is rows [] l i = absurd i
     line_is rows (x ∷ xs) l i =
         ⊎_elim
-        (λ e. (x, inl refl, (ap (λ (z : Decided). z.number) e, ap (λ (z : Decided). z.parts) e)))
+        (λ e. (x, inl refl, (ap (λ (z : Decided). z.number) e, ap (λ (z : Decided). z.participants) e)))
         (λ r. let n = line_is (serial_step s rows x) xs l r in (n.0, inr n.1, n.2))
         i
 
-    decided_told : (l : Decided) (p : ℕ) → IsIn l lines → numbers_at s H l.number.id p ≡ cond (list_any (λ q. eqb q p) l.parts) (l.number ∷ []) []
+    decided_told : (l : Decided) (p : ℕ) → IsIn l lines → numbers_at s H l.number.id p ≡ cond (list_any (λ q. eqb q p) l.participants) (l.number ∷ []) []
     decided_told l p i =
         let n = line_is s.loaded (order s) l i in
         ap (λ (k : Number). numbers_at s H k.id p) n.2.0

@@ -38,7 +38,7 @@ ghost use Rattle.server_core.specs.ReportOrder.{InReportOrder};
 ghost use Rattle.server_core.specs.Runs.{heard};
 ghost use Rattle.server_core.specs.Says as any;
 ghost use Rattle.server_core.specs.Says.{IsQuiet};
-ghost use Rattle.server_core.specs.Setting.{Setting, setting, parts_for};
+ghost use Rattle.server_core.specs.Setting.{Setting, setting, participants_for};
 ghost use Rattle.server_core.specs.Told.{IsTold};
 ghost use Rattle.server_core.specs.declared.messages.Entry.{Entry};
 ghost use Rattle.server_core.specs.declared.messages.Mail.{Mail};
@@ -83,7 +83,7 @@ pub fn calvin_mails_fit()
 /// participants. So within the limits it has fewer than 2^32, and all numbers are below 2^48.
 pub fn calvin_runs_are_short()
     ensures clock { (s : Setting) (H : List Entry) (flight : List Mail) → Valid s → IsRun s H flight → count_entries (λ e. is_clock e.msg) H ≤ epochs s * (s.parts + s.parts * s.parts) }
-    ensures each { (s : Setting) (H : List Entry) (flight : List Mail) (x : TxnId) → Valid s → IsRun s H flight → IsIn x s.ids → let m = length (parts_for s x) in count_entries (λ e. is_about x e.msg) H ≤ m * m + m }
+    ensures each { (s : Setting) (H : List Entry) (flight : List Mail) (x : TxnId) → Valid s → IsRun s H flight → IsIn x s.ids → let m = length (participants_for s x) in count_entries (λ e. is_about x e.msg) H ≤ m * m + m }
     ensures all { (s : Setting) (H : List Entry) (flight : List Mail) → Valid s → IsRun s H flight → length H ≤ most_ordered s }
     ensures small { (s : Setting) (H : List Entry) (flight : List Mail) → Valid s → Limits s → IsRun s H flight → length H < 2 ^ 32 }
     ensures numbers { (s : Setting) (x : TxnId) → Valid s → Limits s → IsIn x s.ids → (number s x).n < 2 ^ 48 }
@@ -127,7 +127,7 @@ pub fn calvin_runs_are_right()
     ensures fits { (c : Config) (w : Workload) (H : List Entry) (flight : List Mail) → IsConfig c → IsValid w → c.protocol ≡ Calvin → any.IsRun c w H flight → fit.AllFitting c w H flight }
     ensures short { (c : Config) (w : Workload) (H : List Entry) (flight : List Mail) → IsConfig c → IsValid w → c.protocol ≡ Calvin → any.IsRun c w H flight → length H ≤ most_entries c w }
     ensures clock { (c : Config) (w : Workload) (H : List Entry) (flight : List Mail) → IsConfig c → IsValid w → c.protocol ≡ Calvin → any.IsRun c w H flight → count_entries (λ e. is_clock e.msg) H ≤ epochs (setting c w) * (c.parts + c.parts * c.parts) }
-    ensures each { (c : Config) (w : Workload) (H : List Entry) (flight : List Mail) (x : TxnId) → IsConfig c → IsValid w → c.protocol ≡ Calvin → any.IsRun c w H flight → IsIn x (all_ids w) → let m = length (parts_for (setting c w) x) in count_entries (λ e. is_about x e.msg) H ≤ m * m + m }
+    ensures each { (c : Config) (w : Workload) (H : List Entry) (flight : List Mail) (x : TxnId) → IsConfig c → IsValid w → c.protocol ≡ Calvin → any.IsRun c w H flight → IsIn x (all_ids w) → let m = length (participants_for (setting c w) x) in count_entries (λ e. is_about x e.msg) H ≤ m * m + m }
     ensures small { (c : Config) (w : Workload) (H : List Entry) (flight : List Mail) → IsConfig c → IsValid w → c.protocol ≡ Calvin → any.IsRun c w H flight → length H < 2 ^ 32 }
     ensures numbers { (c : Config) (w : Workload) (x : TxnId) → IsConfig c → IsValid w → c.protocol ≡ Calvin → IsIn x (all_ids w) → (number (setting c w) x).n < 2 ^ 48 }
     ensures named { (c : Config) (w : Workload) (H : List Entry) → c.protocol ≡ Calvin → AllNamed c w H }

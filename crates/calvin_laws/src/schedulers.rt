@@ -12,7 +12,7 @@ ghost use Rattle.server_core.specs.CalvinFits.{AllFit};
 ghost use Rattle.server_core.specs.CalvinProper.{Valid};
 ghost use Rattle.server_core.specs.GlobalOrder.{order, before, has_id};
 ghost use Rattle.server_core.specs.GreatestRows.{IsGreatest};
-ghost use Rattle.server_core.specs.CalvinScheduler.{takes_part, clash, taken, is_finished, is_ready, applied, now};
+ghost use Rattle.server_core.specs.CalvinScheduler.{participates, clash, taken, is_finished, is_ready, applied, now};
 ghost use Rattle.server_core.specs.Setting.{Setting};
 ghost use Rattle.server_core.specs.declared.messages.Msg.TheVariants.{Batch, Rows};
 ghost use Rattle.server_core.specs.declared.messages.Msg.{Msg};
@@ -36,7 +36,7 @@ pub fn news_are_local()
 pub fn active_lists_are_kept()
     ensures ready { (s : Setting) (p : ℕ) (ms : List Msg) (x : TxnId) → Valid s → IsIn x (active s p ms) → is_ready s p ms x ≡ is_first s p (active s p ms) x }
     ensures became { (s : Setting) (p : ℕ) (m : Msg) (ms : List Msg) → Valid s → AllFit s p (m ∷ ms) → became_ready s p m ms ≡ filter (became s p m ms) (active s p (m ∷ ms)) }
-    ensures batch { (s : Setting) (p e q : ℕ) (ids : List TxnId) (ms : List Msg) → Valid s → AllFit s p ms → active s p (Batch e q ids ∷ ms) ≡ active s p ms ++ filter (λ x. takes_part s x p) (newly_taken s (Batch e q ids) ms) }
+    ensures batch { (s : Setting) (p e q : ℕ) (ids : List TxnId) (ms : List Msg) → Valid s → AllFit s p ms → active s p (Batch e q ids ∷ ms) ≡ active s p ms ++ filter (λ x. participates s x p) (newly_taken s (Batch e q ids) ms) }
     ensures finish { (s : Setting) (p q : ℕ) (x : TxnId) (rows : List Keyed) (ms : List Msg) → Valid s → is_finished s (Rows x q rows ∷ ms) x ≡ true → active s p (Rows x q rows ∷ ms) ≡ without x (active s p ms) }
     ensures same { (s : Setting) (p q : ℕ) (x : TxnId) (rows : List Keyed) (ms : List Msg) → Valid s → is_finished s (Rows x q rows ∷ ms) x ≡ is_finished s ms x → active s p (Rows x q rows ∷ ms) ≡ active s p ms }
 {}

@@ -27,9 +27,9 @@ use Rattle.server_core.specs.CalvinProper.{Valid}
 use Rattle.server_core.specs.Configs.{IsConfig}
 use Rattle.server_core.specs.Coordinator.{to_all}
 use Rattle.server_core.specs.GlobalOrder.{slots, batch, order, number}
-use Rattle.server_core.specs.CalvinScheduler.{takes_part, reading_at, has_batch, as_far, taken, is_finished, is_ready, applied, now}
+use Rattle.server_core.specs.CalvinScheduler.{participates, reading_at, has_batch, as_far, taken, is_finished, is_ready, applied, now}
 use Rattle.server_core.specs.Proper.{ids_in}
-use Rattle.server_core.specs.Setting.{Setting, setting, parts_for}
+use Rattle.server_core.specs.Setting.{Setting, setting, participants_for}
 use Rattle.server_core.specs.declared.messages.Msg.{Msg}
 use Rattle.server_core.specs.declared.messages.Msg.TheVariants.{Rows}
 use Rattle.calvin_laws.proofs.node.ActiveLists.{active_finish, active_same}
@@ -86,7 +86,7 @@ module _ (s : Setting) (v : Valid s) (p : ℕ) (ms : List Msg) where
       let sp = as_far_splits (has_batch ms) (slots s) in
       let more : List TxnId = flat_map (batch s) sp.0 in
       let whole : order s ≡ taken s ms ++ more = ap (flat_map (batch s)) sp.1 ∙ flat_map-append (batch s) (as_far (has_batch ms) (slots s)) sp.0 in
-      omega (arith, ids_filtered x (λ y. takes_part s y p && not (is_finished s ms y)) (taken s ms), order_once s v x, ap (ids_in x) whole, ids-append x (taken s ms) more)
+      omega (arith, ids_filtered x (λ y. participates s y p && not (is_finished s ms y)) (taken s ms), order_once s v x, ap (ids_in x) whole, ids-append x (taken s ms) more)
 
   -- each request is of a transaction of the workload
   pub known : (locks : LockTable) → HasLocks s p locks ms → (key : Key) (r : Request) → IsIn r (queue_at locks key) → IsIn r.id s.ids
@@ -94,7 +94,7 @@ module _ (s : Setting) (v : Valid s) (p : ℕ) (ms : List Msg) where
       let f = filter_in (λ (k : Request). key_eq k.key key) r (asked s p (active s p ms)) (subst (λ l. IsIn r l) (has key) i) in
       let x = flat_in (requests_of s p) r (active s p ms) f.0 in
       let m = in_map_from (request_of x.0) r (accesses_at s p x.0) x.2 in
-      let t = filter_in (λ y. takes_part s y p && not (is_finished s ms y)) x.0 (taken s ms) x.1 in
+      let t = filter_in (λ y. participates s y p && not (is_finished s ms y)) x.0 (taken s ms) x.1 in
       subst (λ y. IsIn y s.ids) (sym (ap (λ (k : Request). k.id) m.2)) (order_in s x.0 (as_far_in s (has_batch ms) x.0 (slots s) t.0))
 
   module _ (fit : AllFit s p ms) (x : TxnId) (q : ℕ) (rows : List Keyed) (suits : Suits s p q (Rows x q rows) ms) where
@@ -168,7 +168,7 @@ module _ (c : Config) (w : Workload) (config : IsConfig c) (good : IsValid w) (p
   -- each reads what it reads after these messages
   pub mails_are : (z : TxnId) → IsIn z s.ids → mails_after s p (row_after (row_in store) left) z ≡ rows_mails s p (Rows x q rows ∷ ms) z
   mails_are z iz =
-      ap (λ l. to_all p (Rows z p l) (parts_for s z))
+      ap (λ l. to_all p (Rows z p l) (participants_for s z))
       (ap (λ l. map {B = Keyed} (λ (a : Access). record { key = a.key; row = row_or_empty (row_after (row_in store) left a.key) }) l) (filter_swap (λ (a : Access). reads a.mode) (λ (a : Access). eqb (partition_of a.key s.parts) p) (s.accesses z))
       ∙ go (reading_at s p z) (λ a i. let f = filter_in (λ (b : Access). eqb (partition_of b.key s.parts) p) a (reading (s.accesses z)) i in row_now z a iz (filter_in (λ (b : Access). reads b.mode) a (s.accesses z) f.0).0 f.1))
     where

@@ -11,7 +11,7 @@ use Rattle.deneva_base.specs.Modes.{writes}
 use Rattle.deneva_base.specs.Partitions.{partition_of}
 use Rattle.deneva_base.proofs.Membership.{key_tells, in_filter, filter_in, in_map_from, any_at, any_found, and_parts, and_true}
 use Rattle.server_core.specs.Setting.{Setting}
-use Rattle.server_core.specs.CalvinScheduler.{takes_part, collide, clash}
+use Rattle.server_core.specs.CalvinScheduler.{participates, collide, clash}
 use Rattle.server_core.specs.GlobalOrder.{before}
 use Rattle.server_core.specs.ActiveList.{is_first, without}
 use Rattle.server_core.specs.Proper.{keys_in, ids_in}
@@ -55,11 +55,11 @@ pub for_key-append : (key : Key) (rs qs : List Request) → for_key key (rs ++ q
 for_key-append key rs qs = filter-append (λ (r : Request). key_eq r.key key) rs qs
 
 -- those that take no part ask nothing
-pub asked_here : (s : Setting) (p : ℕ) (xs : List TxnId) → asked s p xs ≡ asked s p (filter (λ x. takes_part s x p) xs)
+pub asked_here : (s : Setting) (p : ℕ) (xs : List TxnId) → asked s p xs ≡ asked s p (filter (λ x. participates s x p) xs)
 asked_here s p [] = refl
-asked_here s p (x ∷ xs) = go (takes_part s x p) refl (asked_here s p xs)
+asked_here s p (x ∷ xs) = go (participates s x p) refl (asked_here s p xs)
   where
-    go : (b : Bool) → takes_part s x p ≡ b → asked s p xs ≡ asked s p (filter (λ y. takes_part s y p) xs) → requests_of s p x ++ asked s p xs ≡ asked s p (cond b (x ∷ filter (λ y. takes_part s y p) xs) (filter (λ y. takes_part s y p) xs))
+    go : (b : Bool) → participates s x p ≡ b → asked s p xs ≡ asked s p (filter (λ y. participates s y p) xs) → requests_of s p x ++ asked s p xs ≡ asked s p (cond b (x ∷ filter (λ y. participates s y p) xs) (filter (λ y. participates s y p) xs))
     go true e next = ap (λ l. requests_of s p x ++ l) next
     go false e next = ap (λ (l : List Access). map (request_of x) l ++ asked s p xs) (filter-off (λ (a : Access). eqb (partition_of a.key s.parts) p) (s.accesses x) e) ∙ next
 

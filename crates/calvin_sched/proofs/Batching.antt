@@ -13,7 +13,7 @@ use Rattle.server_core.specs.Calvin.{became_ready}
 use Rattle.server_core.specs.CalvinFits.{AllFit}
 use Rattle.server_core.specs.CalvinProper.{Valid}
 use Rattle.server_core.specs.GlobalOrder.{Slot, slots, epochs, batch, order, has_id}
-use Rattle.server_core.specs.CalvinScheduler.{takes_part, has_batch, as_far, taken, is_finished, is_ready, unblocked}
+use Rattle.server_core.specs.CalvinScheduler.{participates, has_batch, as_far, taken, is_finished, is_ready, unblocked}
 use Rattle.server_core.specs.Proper.{ids_in as ids_of}
 use Rattle.server_core.specs.Setting.{Setting}
 use Rattle.server_core.specs.declared.messages.Msg.TheVariants.{Batch}
@@ -146,7 +146,7 @@ module _ (s : Setting) (v : Valid s) (p : ℕ) (ms : List Msg) (fit : AllFit s p
   queues_more key =
       sym (for_key-append key (asked s p (active s p ms)) (asked s p fresh))
       ∙ ap (λ l. for_key key (asked s p (active s p ms) ++ l)) (asked_here s p fresh)
-      ∙ ap (for_key key) (sym (asked-append s p (active s p ms) (filter (λ x. takes_part s x p) fresh)))
+      ∙ ap (for_key key) (sym (asked-append s p (active s p ms) (filter (λ x. participates s x p) fresh)))
       ∙ ap (λ l. for_key key (asked s p l)) (sym (active_batch s v p e q ids ms fit))
 
   module _ (now : AllFit s p with_it) (queue : Key → List Request) (has : (key : Key) → queue key ≡ for_key key (asked s p (active s p with_it))) where
@@ -157,26 +157,26 @@ module _ (s : Setting) (v : Valid s) (p : ℕ) (ms : List Msg) (fit : AllFit s p
         ⊎_elim
         (λ t.
         let b = and_parts (is_ready s p with_it x) (not (is_ready s p ms x)) t in
-        let taken_before = (filter_in (λ y. takes_part s y p && not (is_finished s ms y)) x (taken s ms) i).0 in
+        let taken_before = (filter_in (λ y. participates s y p && not (is_finished s ms y)) x (taken s ms) i).0 in
         absurd (not_both (has_id x (taken s ms)) (in_has x (taken s ms) taken_before) (batch_news s p e q ids ms x b.0 (not_true (is_ready s p ms x) b.1))))
         (λ f. f)
         (is_or_not (became s p (Batch e q ids) ms x)))
 
     -- those that become ready are those of its transactions that are free
-    pub ready_with : became_ready s p (Batch e q ids) ms ≡ filter (λ x. takes_part s x p && all_free s p queue x None) fresh
+    pub ready_with : became_ready s p (Batch e q ids) ms ≡ filter (λ x. participates s x p && all_free s p queue x None) fresh
     ready_with =
         became_active s v p (Batch e q ids) ms now
         ∙ ap (filter (became s p (Batch e q ids) ms)) (active_batch s v p e q ids ms fit)
-        ∙ filter-append (became s p (Batch e q ids) ms) (active s p ms) (filter (λ x. takes_part s x p) fresh)
-        ∙ ap (λ l. l ++ filter (became s p (Batch e q ids) ms) (filter (λ x. takes_part s x p) fresh)) none_old
-        ∙ filter_and (became s p (Batch e q ids) ms) (λ x. takes_part s x p) fresh
-        ∙ filter_same (λ x. takes_part s x p && became s p (Batch e q ids) ms x) (λ x. takes_part s x p && all_free s p queue x None) fresh one
+        ∙ filter-append (became s p (Batch e q ids) ms) (active s p ms) (filter (λ x. participates s x p) fresh)
+        ∙ ap (λ l. l ++ filter (became s p (Batch e q ids) ms) (filter (λ x. participates s x p) fresh)) none_old
+        ∙ filter_and (became s p (Batch e q ids) ms) (λ x. participates s x p) fresh
+        ∙ filter_same (λ x. participates s x p && became s p (Batch e q ids) ms x) (λ x. participates s x p && all_free s p queue x None) fresh one
       where
         not_before : (x : TxnId) → IsIn x fresh → is_ready s p ms x ≡ false
         not_before x i =
             ⊎_elim
             (λ t.
-            let old : IsIn x (taken s ms) = has_in x (taken s ms) (and_parts (has_id x (taken s ms)) (takes_part s x p && unblocked s p ms x) t).0 in
+            let old : IsIn x (taken s ms) = has_in x (taken s ms) (and_parts (has_id x (taken s ms)) (participates s x p && unblocked s p ms x) t).0 in
             let rest : List TxnId = flat_map (batch s) (past (has_batch ms) (slots s)) in
             let whole : order s ≡ taken s ms ++ rest = ap (flat_map (batch s)) (whole_list (has_batch ms) (slots s)) ∙ flat_map-append (batch s) (as_far (has_batch ms) (slots s)) (past (has_batch ms) (slots s)) in
             let later : IsIn x rest = as_far_in s (has_batch with_it) x (past (has_batch ms) (slots s)) i in
@@ -188,11 +188,11 @@ module _ (s : Setting) (v : Valid s) (p : ℕ) (ms : List Msg) (fit : AllFit s p
             (λ f. f)
             (is_or_not (is_ready s p ms x))
 
-        one : (x : TxnId) → IsIn x fresh → (takes_part s x p && became s p (Batch e q ids) ms x) ≡ (takes_part s x p && all_free s p queue x None)
+        one : (x : TxnId) → IsIn x fresh → (participates s x p && became s p (Batch e q ids) ms x) ≡ (participates s x p && all_free s p queue x None)
         one x i =
             ⊎_elim
             (λ t.
-            let here : IsIn x (active s p with_it) = subst (λ l. IsIn x l) (sym (active_batch s v p e q ids ms fit)) (in_right x (active s p ms) (filter (λ y. takes_part s y p) fresh) (in_filter (λ y. takes_part s y p) x fresh i t)) in
+            let here : IsIn x (active s p with_it) = subst (λ l. IsIn x l) (sym (active_batch s v p e q ids ms fit)) (in_right x (active s p ms) (filter (λ y. participates s y p) fresh) (in_filter (λ y. participates s y p) x fresh i t)) in
             ap (λ b. b && became s p (Batch e q ids) ms x) t
             ∙ ap (λ b. is_ready s p with_it x && not b) (not_before x i)
             ∙ and_is (is_ready s p with_it x)
@@ -200,7 +200,7 @@ module _ (s : Setting) (v : Valid s) (p : ℕ) (ms : List Msg) (fit : AllFit s p
             ∙ sym (free_is_first s p queue (active s p with_it) has x)
             ∙ ap (λ b. b && all_free s p queue x None) (sym t))
             (λ f. ap (λ b. b && became s p (Batch e q ids) ms x) f ∙ ap (λ b. b && all_free s p queue x None) (sym f))
-            (is_or_not (takes_part s x p))
+            (is_or_not (participates s x p))
           where
             and_is : (b : Bool) → (b && true) ≡ b
             and_is true = refl

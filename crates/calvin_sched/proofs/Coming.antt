@@ -12,7 +12,7 @@ use Rattle.deneva_base.specs.Rows.{row_at}
 use Rattle.txn_program.specs.Transactions.{reading}
 use Rattle.server_core.specs.CalvinFits.{Suits, AllFit}
 use Rattle.server_core.specs.CalvinScheduler.{has_rows, rows_from, is_finished, collected}
-use Rattle.server_core.specs.Setting.{Setting, parts_for}
+use Rattle.server_core.specs.Setting.{Setting, participants_for}
 use Rattle.server_core.specs.declared.messages.Msg.{Msg}
 use Rattle.server_core.specs.declared.messages.Msg.TheVariants.{Tick, Rows}
 use Rattle.server_core.proofs.lists.ListTests.{all_at, is_or_not, not_both, id_self, id_tells}
@@ -91,7 +91,7 @@ module _ (s : Setting) (p : ℕ) where
   module _ (ms : List Msg) (fit : AllFit s p ms) (x : TxnId) (q : ℕ) (rows : List Keyed) (suits : Suits s p q (Rows x q rows) ms) where
     -- it is not finished before: these rows are missing
     pub unfinished : is_finished s ms x ≡ false
-    unfinished = ⊎_elim (λ t. absurd (not_both (has_rows ms x q) (all_at (has_rows ms x) q (parts_for s x) t suits.2) suits.4)) (λ f. f) (is_or_not (is_finished s ms x))
+    unfinished = ⊎_elim (λ t. absurd (not_both (has_rows ms x q) (all_at (has_rows ms x) q (participants_for s x) t suits.2) suits.4)) (λ f. f) (is_or_not (is_finished s ms x))
 
     module _ (arrivals : Arrivals) (has : HasArrivals s arrivals ms) where
       pub kept : arrivals_at arrivals x ≡ came_for x ms
@@ -101,7 +101,7 @@ module _ (s : Setting) (p : ℕ) where
       pub complete_is : is_complete s (arrivals_at arrivals x) q x ≡ is_finished s (Rows x q rows ∷ ms) x
       complete_is =
           ap (λ l. is_complete s l q x) kept
-          ∙ all_same (λ r. eqb r q || has_come (came_for x ms) r) (λ r. (id_eq x x && eqb q r) || has_rows ms x r) (parts_for s x)
+          ∙ all_same (λ r. eqb r q || has_come (came_for x ms) r) (λ r. (id_eq x x && eqb q r) || has_rows ms x r) (participants_for s x)
           (λ r. ap (λ b. eqb r q || b) (has_come_rows x r ms) ∙ ap (λ b. b || has_rows ms x r) (eqb_turned r q) ∙ sym (ap (λ b. (b && eqb q r) || has_rows ms x r) (id_self x)))
 
       -- and what is collected is as it came
@@ -120,7 +120,7 @@ module _ (s : Setting) (p : ℕ) where
           go (a ∷ as') = ap (λ l. record { key = a.key; row = row_at l a.key } ∷ map (λ (c : Access). record { key = c.key; row = row_at (rows_with (arrivals_at arrivals x) q rows (partition_of c.key s.parts)) c.key }) as') (same (partition_of a.key s.parts)) ∙ ap (λ l. record { key = a.key; row = row_at (rows_from (Rows x q rows ∷ ms) x (partition_of a.key s.parts)) a.key } ∷ l) (go as')
 
       other_done : (y : TxnId) → id_eq x y ≡ false → is_finished s (Rows x q rows ∷ ms) y ≡ is_finished s ms y
-      other_done y e = ap (λ b. list_all (λ r. (b && eqb q r) || has_rows ms y r) (parts_for s y)) e
+      other_done y e = ap (λ b. list_all (λ r. (b && eqb q r) || has_rows ms y r) (participants_for s y)) e
 
       other_came : (y : TxnId) → id_eq x y ≡ false → came_for y (Rows x q rows ∷ ms) ≡ came_for y ms
       other_came y e = ap (λ b. cond b (came_for y ms ++ record { part = q; rows = rows } ∷ []) (came_for y ms)) e

@@ -9,8 +9,8 @@ use Rattle.deneva_base.specs.Keys.{id_eq}
 use Rattle.deneva_base.specs.Lists.{IsIn}
 use Rattle.txn_program.specs.Transactions.{numbers_below}
 use Rattle.server_core.specs.CalvinFits.{Suits, AllFit}
-use Rattle.server_core.specs.CalvinScheduler.{has_rows, takes_part}
-use Rattle.server_core.specs.Setting.{Setting, parts_for}
+use Rattle.server_core.specs.CalvinScheduler.{has_rows, participates}
+use Rattle.server_core.specs.Setting.{Setting, participants_for}
 use Rattle.server_core.specs.declared.messages.Msg.{Msg}
 use Rattle.server_core.specs.declared.messages.Msg.TheVariants.{Tick, Rows}
 use Rattle.server_core.proofs.lists.ListTests.{not_both, id_self, id_tells}
@@ -74,31 +74,31 @@ below_once g r (suc n) passes =
 
 module _ (s : Setting) (p : ℕ) where
   -- each participant is there once
-  part_once : (x : TxnId) (r : ℕ) → IsIn r (parts_for s x) → length (filter (eqb r) (parts_for s x)) ≡ 1
-  part_once x r i = let is = participant_is s x r i in (below_once (takes_part s x) r s.parts is.0).0 is.1
+  part_once : (x : TxnId) (r : ℕ) → IsIn r (participants_for s x) → length (filter (eqb r) (participants_for s x)) ≡ 1
+  part_once x r i = let is = participant_is s x r i in (below_once (participates s x) r s.parts is.0).0 is.1
 
   -- as many came as participants whose rows did
-  pub came_counted : (x : TxnId) (ms : List Msg) → AllFit s p ms → length (came_for x ms) ≡ length (filter (has_rows ms x) (parts_for s x))
-  came_counted x [] fit = none (parts_for s x)
+  pub came_counted : (x : TxnId) (ms : List Msg) → AllFit s p ms → length (came_for x ms) ≡ length (filter (has_rows ms x) (participants_for s x))
+  came_counted x [] fit = none (participants_for s x)
     where
       none : (xs : List ℕ) → 0 ≡ length (filter (λ z. false) xs)
       none [] = refl
       none (z ∷ xs) = none xs
   came_counted x (Rows y q rows ∷ ms) fit = go (id_eq y x) refl (came_counted x ms fit.1)
     where
-      go : (b : Bool) → id_eq y x ≡ b → length (came_for x ms) ≡ length (filter (has_rows ms x) (parts_for s x)) → length (cond b (came_for x ms ++ record { part = q; rows = rows } ∷ []) (came_for x ms)) ≡ length (filter (λ z. (b && eqb q z) || has_rows ms x z) (parts_for s x))
+      go : (b : Bool) → id_eq y x ≡ b → length (came_for x ms) ≡ length (filter (has_rows ms x) (participants_for s x)) → length (cond b (came_for x ms ++ record { part = q; rows = rows } ∷ []) (came_for x ms)) ≡ length (filter (λ z. (b && eqb q z) || has_rows ms x z) (participants_for s x))
       go true e before =
           let is : y ≡ x = ⊎_elim (λ u. u.1) (λ u. absurd (not_both (id_eq y x) e u.0)) (id_tells y x) in
           let new : has_rows ms x q ≡ false = subst (λ z. has_rows ms z q ≡ false) is fit.0.1.4 in
-          let there : IsIn q (parts_for s x) = subst (λ z. IsIn q (parts_for s z)) is (subst (λ n. IsIn n (parts_for s y)) (sym fit.0.1.0) fit.0.1.2) in
-          let more = one_more (has_rows ms x) q (parts_for s x) new in
+          let there : IsIn q (participants_for s x) = subst (λ z. IsIn q (participants_for s z)) is (subst (λ n. IsIn n (participants_for s y)) (sym fit.0.1.0) fit.0.1.2) in
+          let more = one_more (has_rows ms x) q (participants_for s x) new in
           omega (arith, before, more, part_once x q there, length-append (came_for x ms) (record { part = q; rows = rows } ∷ []))
       go false e before = before
   came_counted x (Tick e ∷ ms) fit = came_counted x ms fit.1
   came_counted x (m ∷ ms) fit = came_counted x ms fit.1
 
   -- the last rows that fit make all complete where they are as many as the participants
-  pub complete_counted : (ms : List Msg) (fit : AllFit s p ms) (x : TxnId) (q : ℕ) (rows : List Keyed) (suits : Suits s p q (Rows x q rows) ms) (arrivals : Arrivals) → HasArrivals s arrivals ms → is_complete s (arrivals_at arrivals x) q x ≡ (length (arrivals_at arrivals x) + 1 == length (parts_for s x))
+  pub complete_counted : (ms : List Msg) (fit : AllFit s p ms) (x : TxnId) (q : ℕ) (rows : List Keyed) (suits : Suits s p q (Rows x q rows) ms) (arrivals : Arrivals) → HasArrivals s arrivals ms → is_complete s (arrivals_at arrivals x) q x ≡ (length (arrivals_at arrivals x) + 1 == length (participants_for s x))
   complete_counted ms fit x q rows suits arrivals has =
       let with_it : List Msg = Rows x q rows ∷ ms in
       let last : length (came_for x with_it) ≡ length (arrivals_at arrivals x) + 1 =
@@ -106,5 +106,5 @@ module _ (s : Setting) (p : ℕ) where
       ∙ length-append (came_for x ms) (record { part = q; rows = rows } ∷ [])
       ∙ ap (λ l. length l + 1) (sym (kept s p ms fit x q rows suits arrivals has)) in
       complete_is s p ms fit x q rows suits arrivals has
-      ∙ all_counted (has_rows with_it x) (parts_for s x)
-      ∙ ap (λ n. n == length (parts_for s x)) (sym (came_counted x with_it ((q, suits), fit)) ∙ last)
+      ∙ all_counted (has_rows with_it x) (participants_for s x)
+      ∙ ap (λ n. n == length (participants_for s x)) (sym (came_counted x with_it ((q, suits), fit)) ∙ last)

@@ -16,8 +16,8 @@ use Rattle.server_core.specs.Calvin.{became_ready}
 use Rattle.server_core.specs.CalvinFits.{Suits, AllFit}
 use Rattle.server_core.specs.CalvinProper.{Valid}
 use Rattle.server_core.specs.GlobalOrder.{order, before, number}
-use Rattle.server_core.specs.CalvinScheduler.{takes_part, collide, clash, has_rows, rows_from, taken, is_finished, is_ready}
-use Rattle.server_core.specs.Setting.{Setting, parts_for}
+use Rattle.server_core.specs.CalvinScheduler.{participates, collide, clash, has_rows, rows_from, taken, is_finished, is_ready}
+use Rattle.server_core.specs.Setting.{Setting, participants_for}
 use Rattle.server_core.specs.declared.messages.Msg.{Msg}
 use Rattle.server_core.specs.declared.messages.Msg.TheVariants.{Rows}
 use Rattle.calvin_laws.proofs.node.ActiveLists.{ready_among, became_active, active_finish}
@@ -79,7 +79,7 @@ module _ (s : Setting) (v : Valid s) (p : ℕ) where
 
     -- the one that finishes was ready here
     was_ready : is_ready s p ms x ≡ true
-    was_ready = go (rows_in ms' x p (all_at (has_rows ms' x) p (parts_for s x) done suits.3))
+    was_ready = go (rows_in ms' x p (all_at (has_rows ms' x) p (participants_for s x) done suits.3))
       where
         go : IsIn (Rows x p (rows_from ms' x p)) ms' → is_ready s p ms x ≡ true
         go i =
@@ -105,8 +105,8 @@ module _ (s : Setting) (v : Valid s) (p : ℕ) where
           let i : IsIn z (active s p ms') = subst (λ l. IsIn z l) (sym left) f.0 in
           let now_ready : is_ready s p ms' z ≡ true = ready_among s v p ms' z i ∙ subst (λ l. is_first s p l z ≡ true) (sym left) f.2 in
           let other : id_eq z x ≡ false = not_true (id_eq z x) (filter_in (λ y. not (id_eq y x)) z (active s p ms) f.0).1 in
-          let stands = (filter_in (λ y. takes_part s y p && not (is_finished s ms' y)) z (taken s ms') i).1 in
-          let un' : is_finished s ms' z ≡ false = not_true (is_finished s ms' z) (and_parts (takes_part s z p) (not (is_finished s ms' z)) stands).1 in
+          let stands = (filter_in (λ y. participates s y p && not (is_finished s ms' y)) z (taken s ms') i).1 in
+          let un' : is_finished s ms' z ≡ false = not_true (is_finished s ms' z) (and_parts (participates s z p) (not (is_finished s ms' z)) stands).1 in
           let un : is_finished s ms z ≡ false = ⊎_elim (λ t. absurd (not_both (is_finished s ms' z) (finished_more s (Rows x q rows) ms z t) un')) (λ n. n) (is_or_not (is_finished s ms z)) in
           let not_before : is_ready s p ms z ≡ false = ⊎_elim (λ t. absurd (was_not t f.1 other un)) (λ n. n) (is_or_not (is_ready s p ms z)) in
           subst (λ l. IsIn z l) (sym (became_active s v p (Rows x q rows) ms all_fit))

@@ -20,7 +20,7 @@ use Rattle.txn_program.specs.declared.programs.Program.{Program}
 use Rattle.txn_program.specs.declared.programs.Workload.{Workload}
 use Rattle.txn_program.proofs.Ids.{id_between, id_for_each}
 use Rattle.server_core.specs.GlobalOrder.{number}
-use Rattle.server_core.specs.CalvinScheduler.{takes_part}
+use Rattle.server_core.specs.CalvinScheduler.{participates}
 use Rattle.server_core.specs.Setting.{Setting}
 use Rattle.server_core.proofs.lists.ListTests.{flat_in}
 use Rattle.server_core.specs.Roles.{setting_of, accesses_at}
@@ -78,7 +78,7 @@ any_or_none f (x ∷ xs) = go (f x) (any_or_none f xs)
     go false e = e
 
 -- a transaction takes part where it has accesses
-pub takes : (s : Setting) (p : ℕ) (x : TxnId) (l : List Access) (b : Bool) → l ≡ accesses_at s p x → b ≡ (length l == 0) → takes_part s x p ≡ not b
+pub takes : (s : Setting) (p : ℕ) (x : TxnId) (l : List Access) (b : Bool) → l ≡ accesses_at s p x → b ≡ (length l == 0) → participates s x p ≡ not b
 takes s p x l b e f = any_or_none (λ (a : Access). eqb (partition_of a.key s.parts) p) (s.accesses x) ∙ ap not (ap (λ k. length k == 0) (sym e) ∙ sym f)
 
 -- the numbers that a queue frees

@@ -16,7 +16,7 @@ use Rattle.server_core.specs.CalvinFits.{Suits, AllFit}
 use Rattle.server_core.specs.CalvinProper.{Valid}
 use Rattle.server_core.specs.Family.{Family}
 use Rattle.server_core.specs.GlobalOrder.{slots, epochs, batch, number}
-use Rattle.server_core.specs.CalvinScheduler.{takes_part, as_far, has_batch, is_finished}
+use Rattle.server_core.specs.CalvinScheduler.{participates, as_far, has_batch, is_finished}
 use Rattle.server_core.specs.Roles.{FitsRole, said_by}
 use Rattle.server_core.specs.Setting.{Setting, loaded_at}
 use Rattle.server_core.specs.declared.messages.Msg.{Msg}
@@ -102,7 +102,7 @@ module _ (s : Setting) (v : Valid s) (p : ℕ) where
   }
 
   pub locks_first : (locks : LockTable) → ((key : Key) → queue_at locks key ≡ []) → HasLocks s p locks []
-  locks_first locks none key = none key ∙ sym (ap (λ l. for_key key (asked s p (filter (λ x. takes_part s x p && is_unfinished x) (flat_map (batch s) l)))) (none_far (slots s)))
+  locks_first locks none key = none key ∙ sym (ap (λ l. for_key key (asked s p (filter (λ x. participates s x p && is_unfinished x) (flat_map (batch s) l)))) (none_far (slots s)))
     where
       is_unfinished : TxnId → Bool
       is_unfinished x = not (is_finished s [] x)
@@ -138,12 +138,12 @@ module _ (s : Setting) (v : Valid s) (p : ℕ) (ms : List Msg) (fit : AllFit s p
 -- What is said on it.
 
 module _ (n : CalvinNode) (ms : List Msg) (stands : CalvinStands n ms) (e q : ℕ) (ids : List TxnId) (suits : Suits (setting_of n.role) n.role.part q (Batch e q ids) ms) where
-  pub says_batch : (locks : LockTable) (fresh : List TxnId) → fresh ≡ newly_taken (setting_of n.role) (Batch e q ids) ms → HasLocks (setting_of n.role) n.role.part locks (Batch e q ids ∷ ms) → flat_map (mails_after (setting_of n.role) n.role.part (row_in n.store)) (filter (λ x. takes_part (setting_of n.role) x n.role.part && all_free (setting_of n.role) n.role.part (queue_at locks) x None) fresh) ≡ says (setting_of n.role) n.role.part (Batch e q ids ∷ ms)
+  pub says_batch : (locks : LockTable) (fresh : List TxnId) → fresh ≡ newly_taken (setting_of n.role) (Batch e q ids) ms → HasLocks (setting_of n.role) n.role.part locks (Batch e q ids ∷ ms) → flat_map (mails_after (setting_of n.role) n.role.part (row_in n.store)) (filter (λ x. participates (setting_of n.role) x n.role.part && all_free (setting_of n.role) n.role.part (queue_at locks) x None) fresh) ≡ says (setting_of n.role) n.role.part (Batch e q ids ∷ ms)
   says_batch locks fresh is has =
       let s : Setting = setting_of n.role in
       let p : ℕ = n.role.part in
       let v : Valid s = calvin.valid n.role.config n.role.work.now n.role.valid n.role.ranges in
-      ap (λ l. flat_map (mails_after s p (row_in n.store)) (filter (λ x. takes_part s x p && all_free s p (queue_at locks) x None) l)) is
+      ap (λ l. flat_map (mails_after s p (row_in n.store)) (filter (λ x. participates s x p && all_free s p (queue_at locks) x None) l)) is
       ∙ ap (flat_map (mails_after s p (row_in n.store))) (sym (ready_with s v p ms stands.fit e q ids ((q, suits), stands.fit) (queue_at locks) has))
       ∙ all_mails_now n.role.config n.role.work.now n.role.ranges n.role.valid p (Batch e q ids ∷ ms) n.store stands.versions (became_ready s p (Batch e q ids) ms)
 

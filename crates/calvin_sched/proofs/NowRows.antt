@@ -21,7 +21,7 @@ use Rattle.server_core.specs.Calvin.{rows_mails}
 use Rattle.server_core.specs.Configs.{IsConfig}
 use Rattle.server_core.specs.Coordinator.{to_all}
 use Rattle.server_core.specs.CalvinScheduler.{reading_at, now}
-use Rattle.server_core.specs.Setting.{Setting, setting, parts_for}
+use Rattle.server_core.specs.Setting.{Setting, setting, participants_for}
 use Rattle.server_core.specs.declared.messages.Msg.{Msg}
 use Rattle.server_core.specs.declared.messages.Msg.TheVariants.{Rows}
 use Rattle.calvin_sched.specs.Reading.{reads_after, mails_after}
@@ -64,7 +64,7 @@ module _ (c : Config) (w : Workload) (config : IsConfig c) (good : IsValid w) (p
   -- each reads the rows of the store
   pub mails_now : (z : TxnId) → mails_after s p (row_in store) z ≡ rows_mails s p ms z
   mails_now z =
-      ap (λ l. to_all p (Rows z p l) (parts_for s z))
+      ap (λ l. to_all p (Rows z p l) (participants_for s z))
       (reads_are s p (row_in store) (now s p ms) z (λ a i. row_now a.key (filter_in (λ (b : Access). eqb (partition_of b.key s.parts) p) a (reading (s.accesses z)) i).1))
 
   pub all_mails_now : (zs : List TxnId) → flat_map (mails_after s p (row_in store)) zs ≡ flat_map (rows_mails s p ms) zs

@@ -30,7 +30,7 @@ use Rattle.server_core.specs.Coordinator.{at_part}
 use Rattle.server_core.specs.Effects.{leaves, written, appended}
 use Rattle.server_core.specs.GlobalOrder.{order, number}
 use Rattle.server_core.specs.CalvinScheduler.{has_rows, rows_from, is_finished, collected, applied, changed, now}
-use Rattle.server_core.specs.Setting.{Setting, setting, parts_for}
+use Rattle.server_core.specs.Setting.{Setting, setting, participants_for}
 use Rattle.server_core.specs.declared.messages.Msg.{Msg}
 use Rattle.server_core.specs.declared.messages.Msg.TheVariants.{Tick, Batch, Rows, Finished}
 use Rattle.server_core.proofs.configured.CalvinSettings as calvin
@@ -103,7 +103,7 @@ module _ (s : Setting) (p : ℕ) where
 
   module _ (x : TxnId) (q : ℕ) (rows : List Keyed) (ms : List Msg) (y : TxnId) (e : id_eq x y ≡ false) where
     other_finished : is_finished s (Rows x q rows ∷ ms) y ≡ is_finished s ms y
-    other_finished = ap (λ b. list_all (λ r. (b && eqb q r) || has_rows ms y r) (parts_for s y)) e
+    other_finished = ap (λ b. list_all (λ r. (b && eqb q r) || has_rows ms y r) (participants_for s y)) e
 
     other_collected : collected s (Rows x q rows ∷ ms) y ≡ collected s ms y
     other_collected = ap (λ b. map (λ (a : Access). record { key = a.key; row = row_at (cond (b && eqb q (partition_of a.key s.parts)) rows (rows_from ms y (partition_of a.key s.parts))) a.key }) (reading (s.accesses y))) e
@@ -148,7 +148,7 @@ module _ (s : Setting) (p : ℕ) where
         go : (as' : List Access) → s.accesses x ≡ as' → 1 ≤ length as' → is_finished s [] x ≡ true → ⊥
         go [] e h t = omega (arith, h)
         go (a ∷ as') e h t =
-            true≢false (sym (all_at (has_rows [] x) (partition_of a.key s.parts) (parts_for s x) t (access_there s v.parts x a (subst (λ l. IsIn a l) (sym e) (inl refl)))))
+            true≢false (sym (all_at (has_rows [] x) (partition_of a.key s.parts) (participants_for s x) t (access_there s v.parts x a (subst (λ l. IsIn a l) (sym e) (inl refl)))))
 
     -- the first version is the loaded one
     pub version_first : (key : Key) → version s p [] key ≡ option_map loaded (s.loaded key)

@@ -9,7 +9,7 @@ use Rattle.deneva_base.specs.declared.rows.Keyed.{Keyed}
 use Rattle.txn_program.specs.Transactions.{reading}
 use Rattle.server_core.specs.Coordinator.{at_part, to_all}
 use Rattle.server_core.specs.Effects.{leaves}
-use Rattle.server_core.specs.Setting.{Setting, parts_for}
+use Rattle.server_core.specs.Setting.{Setting, participants_for}
 use Rattle.server_core.specs.declared.messages.Mail.{Mail}
 use Rattle.server_core.specs.declared.messages.Msg.TheVariants as msg
 use Rattle.server_core.specs.Roles.{accesses_at}
@@ -30,7 +30,7 @@ reads_after s p rows x = map (λ a. record { key = a.key; row = row_or_empty (ro
 
 -- those rows to each of its participants
 abbrev pub mails_after : Setting → ℕ → Rows → TxnId → List Mail
-mails_after s p rows x = to_all p (msg.Rows x p (reads_after s p rows x)) (parts_for s x)
+mails_after s p rows x = to_all p (msg.Rows x p (reads_after s p rows x)) (participants_for s x)
 
 -- the rows of a participant, the last of which are these
 abbrev pub rows_with : List Arrival → ℕ → List Keyed → ℕ → List Keyed
@@ -38,7 +38,7 @@ rows_with list part rows q = if q == part then rows else rows_of_part list q
 
 -- those of all participants are there, with the last
 abbrev pub is_complete : Setting → List Arrival → ℕ → TxnId → Bool
-is_complete s list part x = list_all (λ q. (q == part) || has_come list q) (parts_for s x)
+is_complete s list part x = list_all (λ q. (q == part) || has_come list q) (participants_for s x)
 
 -- the rows of the accesses that read, as they came
 abbrev pub collected_from : Setting → (ℕ → List Keyed) → TxnId → List Keyed

@@ -11,7 +11,7 @@ use Rattle.server_core.specs.ActiveList.{active}
 use Rattle.server_core.specs.CalvinFits.{AllFit}
 use Rattle.server_core.specs.GlobalOrder.{Slot, slots, batch, number}
 use Rattle.server_core.specs.CalvinScheduler.{has_batch, is_finished}
-use Rattle.server_core.specs.Setting.{Setting, parts_for}
+use Rattle.server_core.specs.Setting.{Setting, participants_for}
 use Rattle.server_core.specs.declared.messages.Msg.TheVariants as msg
 use Rattle.server_core.specs.declared.messages.Msg.{Msg}
 use Rattle.calvin_sched.specs.Arrivals.{arrivals_at}
@@ -60,7 +60,7 @@ pub record CalvinStands (n : CalvinNode) (ms : List Msg) : Type 0 where
   pub sequencer : role_of (role_in n.sequencer) ≡ role_of n.role
   pub fit : AllFit (setting_of n.role) n.role.part ms
   pub numbers : n.numbers.items ≡ map (number (setting_of n.role)) (setting_of n.role).ids
-  pub counts : n.counts.items ≡ map (λ x. length (parts_for (setting_of n.role) x)) (setting_of n.role).ids
+  pub counts : n.counts.items ≡ map (λ x. length (participants_for (setting_of n.role) x)) (setting_of n.role).ids
   pub batches : HasBatches (setting_of n.role) n.batches ms
   pub locks : HasLocks (setting_of n.role) n.role.part n.locks ms
   pub arrivals : HasArrivals (setting_of n.role) n.arrivals ms

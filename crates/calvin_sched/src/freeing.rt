@@ -6,7 +6,7 @@ ghost use Rattle.deneva_base.specs.Modes.{writes};
 ghost use Rattle.deneva_base.specs.declared.numbers.TxnId as txns;
 ghost use Rattle.txn_program.specs.Serial.{all_ids};
 ghost use Rattle.server_core.specs.GlobalOrder.{number};
-ghost use Rattle.server_core.specs.CalvinScheduler.{takes_part};
+ghost use Rattle.server_core.specs.CalvinScheduler.{participates};
 ghost use Rattle.calvin_sched.specs.Asked.{asked, all_free, requests_of};
 ghost use Rattle.calvin_sched.specs.Freed.{freed_on, freed_by, put_numbers};
 ghost use Rattle.calvin_sched.specs.Known.{HasNumbers, AreKnown};
@@ -72,7 +72,7 @@ impl<'w> CalvinNode<'w> {
     /// Whether the transaction takes part here and is ready.
     fn is_ready(&self, id: TxnId) -> Result<bool, NoMemory>
         requires id { IsIn id (all_ids self.now.role.work.now) }
-        ensures { IfOk result (λ ready. ready ≡ (takes_part (setting_of self.now.role) id self.now.role.part && all_free (setting_of self.now.role) self.now.role.part (queue_at self.now.locks) id None)) }
+        ensures { IfOk result (λ ready. ready ≡ (participates (setting_of self.now.role) id self.now.role.part && all_free (setting_of self.now.role) self.now.role.part (queue_at self.now.locks) id None)) }
     {
         let accesses = self.role.accesses_here(id)?;
         Ok(!accesses.is_empty() && self.are_free(id, accesses.as_slice(), None))
@@ -81,7 +81,7 @@ impl<'w> CalvinNode<'w> {
     /// Those of these transactions that take part here and are ready.
     pub(crate) fn ready(&self, ids: &[TxnId]) -> Result<Vec<TxnId>, NoMemory>
         requires ids { (x : txns.TxnId) → IsIn x ids.now → IsIn x (all_ids self.now.role.work.now) }
-        ensures { IfOk result (λ ready. ready.items ≡ filter (λ x. takes_part (setting_of self.now.role) x self.now.role.part && all_free (setting_of self.now.role) self.now.role.part (queue_at self.now.locks) x None) ids.now) }
+        ensures { IfOk result (λ ready. ready.items ≡ filter (λ x. participates (setting_of self.now.role) x self.now.role.part && all_free (setting_of self.now.role) self.now.role.part (queue_at self.now.locks) x None) ids.now) }
     {
         let mut ready = Vec::new(self.role.alloc);
         for id in ids {

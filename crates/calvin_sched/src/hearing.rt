@@ -6,7 +6,7 @@ ghost use Rattle.deneva_base.specs.declared.numbers.TxnId as txns;
 ghost use Rattle.row_store.specs.Stores.{row_in};
 ghost use Rattle.txn_program.specs.Serial.{all_ids};
 ghost use Rattle.server_core.specs.Calvin.{says, finished_mail};
-ghost use Rattle.server_core.specs.CalvinScheduler.{takes_part};
+ghost use Rattle.server_core.specs.CalvinScheduler.{participates};
 ghost use Rattle.server_core.specs.declared.messages.Msg.TheVariants as msg;
 ghost use Rattle.calvin_sched.specs.Arrivals.{arrivals_at};
 ghost use Rattle.calvin_sched.specs.Asked.{all_free};
@@ -26,7 +26,7 @@ impl<'w> CalvinNode<'w> {
     /// Sends the rows of those of these transactions that are ready.
     fn say_ready(&self, fresh: &[TxnId], out: &mut Outbox) -> Result<(), NoMemory>
         requires ids { (x : txns.TxnId) → IsIn x fresh.now → IsIn x (all_ids self.now.role.work.now) }
-        ensures ok { OnOk result (out.new.mails ≡ out.old.mails ++ flat_map (mails_after (setting_of self.now.role) self.now.role.part (row_in self.now.store)) (filter (λ x. takes_part (setting_of self.now.role) x self.now.role.part && all_free (setting_of self.now.role) self.now.role.part (queue_at self.now.locks) x None) fresh.now)) }
+        ensures ok { OnOk result (out.new.mails ≡ out.old.mails ++ flat_map (mails_after (setting_of self.now.role) self.now.role.part (row_in self.now.store)) (filter (λ x. participates (setting_of self.now.role) x self.now.role.part && all_free (setting_of self.now.role) self.now.role.part (queue_at self.now.locks) x None) fresh.now)) }
         ensures err { OnErr result (out.new.mails ≡ out.old.mails) }
     {
         let mut mails = MailList::new(self.role.alloc);

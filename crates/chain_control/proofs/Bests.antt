@@ -23,7 +23,7 @@ use Rattle.protocol_rules.proofs.Belows.{listed, below_over, below_under, not_ab
 use Rattle.protocol_rules.proofs.Marks.{marked}
 use Rattle.protocol_rules.proofs.Mvccs.{writer_of, owned, stamping}
 use Rattle.protocol_rules.proofs.Stamping.{wakes_law}
-use Rattle.chain_control.specs.declared.links.Link.{Link}
+use Rattle.chain_control.specs.declared.links.ReadVersion.{ReadVersion}
 use Rattle.chain_control.specs.Links.{later_link, link_below}
 use Rattle.chain_control.specs.Kept.{in_order, awaited, is_kept, kept}
 use Rattle.chain_control.specs.Standing.{link_of}
@@ -31,12 +31,12 @@ use Rattle.chain_control.proofs.Apart.{apart_same, apart_versions, below_in, sam
 use Rattle.chain_control.proofs.Floors.{greatest_at, in_versions, versions_in}
 
 -- x is below the stamp, and none that is has a greater number
-record Best (stamp : ℕ) (best : Option Link) (ls : List Link) (x : Link) : Type 0 where
+record Best (stamp : ℕ) (best : Option ReadVersion) (ls : List ReadVersion) (x : ReadVersion) : Type 0 where
   pub from : (best ≡ Some x) ⊎ (IsIn x ls × (ltb x.number.n stamp ≡ true))
-  pub best_not : (b : Link) → best ≡ Some b → number_lt x.number b.number ≡ false
-  pub none_above : (l : Link) → IsIn l ls → ltb l.number.n stamp ≡ true → number_lt x.number l.number ≡ false
+  pub best_not : (b : ReadVersion) → best ≡ Some b → number_lt x.number b.number ≡ false
+  pub none_above : (l : ReadVersion) → IsIn l ls → ltb l.number.n stamp ≡ true → number_lt x.number l.number ≡ false
 
-some_is : (a b : Link) → Some a ≡ Some b → a ≡ b
+some_is : (a b : ReadVersion) → Some a ≡ Some b → a ≡ b
 some_is a b e = cc
 
 not_lt_self : (a : Number) → number_lt a a ≡ false
@@ -48,9 +48,9 @@ not_lt_back a b e = grind (arith, nat_tests)
 not_lt_trans : (a b c : Number) → number_lt a b ≡ false → number_lt b c ≡ false → number_lt a c ≡ false
 not_lt_trans a b c e f = grind (arith, nat_tests)
 
-later_best : (stamp : ℕ) (best : Option Link) (l : Link) (ls : List Link) (x : Link) → ltb l.number.n stamp ≡ true → Best stamp (Some (later_link best l)) ls x → Best stamp best (l ∷ ls) x
+later_best : (stamp : ℕ) (best : Option ReadVersion) (l : ReadVersion) (ls : List ReadVersion) (x : ReadVersion) → ltb l.number.n stamp ≡ true → Best stamp (Some (later_link best l)) ls x → Best stamp best (l ∷ ls) x
 later_best stamp None l ls x e m = record {
-  from = ⊎_elim (λ s. let is : l ≡ x = some_is l x s in inr (inl (sym is), subst (λ (z : Link). ltb z.number.n stamp ≡ true) is e)) (λ i. inr (inr i.0, i.1)) m.from;
+  from = ⊎_elim (λ s. let is : l ≡ x = some_is l x s in inr (inl (sym is), subst (λ (z : ReadVersion). ltb z.number.n stamp ≡ true) is e)) (λ i. inr (inr i.0, i.1)) m.from;
   best_not = λ b s. cc s;
   none_above = λ q i t. ⊎_elim (λ s. m.best_not q (ap (λ z. Some z) (sym s))) (λ j. m.none_above q j t) i;
 }
@@ -58,37 +58,37 @@ later_best stamp (Some b) l ls x e m = go (number_lt b.number l.number) refl m
   where
     go : (t : Bool) → number_lt b.number l.number ≡ t → Best stamp (Some (cond t l b)) ls x → Best stamp (Some b) (l ∷ ls) x
     go true lt m = record {
-      from = ⊎_elim (λ s. let is : l ≡ x = some_is l x s in inr (inl (sym is), subst (λ (z : Link). ltb z.number.n stamp ≡ true) is e)) (λ i. inr (inr i.0, i.1)) m.from;
-      best_not = λ c s. subst (λ (z : Link). number_lt x.number z.number ≡ false) (some_is b c s) (not_lt_trans x.number l.number b.number (m.best_not l refl) (not_lt_back b.number l.number lt));
+      from = ⊎_elim (λ s. let is : l ≡ x = some_is l x s in inr (inl (sym is), subst (λ (z : ReadVersion). ltb z.number.n stamp ≡ true) is e)) (λ i. inr (inr i.0, i.1)) m.from;
+      best_not = λ c s. subst (λ (z : ReadVersion). number_lt x.number z.number ≡ false) (some_is b c s) (not_lt_trans x.number l.number b.number (m.best_not l refl) (not_lt_back b.number l.number lt));
       none_above = λ q i t. ⊎_elim (λ s. m.best_not q (ap (λ z. Some z) (sym s))) (λ j. m.none_above q j t) i;
     }
     go false lt m = record {
       from = ⊎_elim (λ s. inl s) (λ i. inr (inr i.0, i.1)) m.from;
       best_not = m.best_not;
-      none_above = λ q i t. ⊎_elim (λ s. subst (λ (z : Link). number_lt x.number z.number ≡ false) (sym s) (not_lt_trans x.number b.number l.number (m.best_not b refl) lt)) (λ j. m.none_above q j t) i;
+      none_above = λ q i t. ⊎_elim (λ s. subst (λ (z : ReadVersion). number_lt x.number z.number ≡ false) (sym s) (not_lt_trans x.number b.number l.number (m.best_not b refl) lt)) (λ j. m.none_above q j t) i;
     }
 
-best_some : (stamp : ℕ) (best : Option Link) (ls : List Link) (x : Link) → link_below stamp best ls ≡ Some x → Best stamp best ls x
-best_some stamp best [] x e = record { from = inl e; best_not = λ b s. subst (λ (z : Link). number_lt x.number z.number ≡ false) (some_is x b (sym e ∙ s)) (not_lt_self x.number); none_above = λ l i t. absurd i }
+best_some : (stamp : ℕ) (best : Option ReadVersion) (ls : List ReadVersion) (x : ReadVersion) → link_below stamp best ls ≡ Some x → Best stamp best ls x
+best_some stamp best [] x e = record { from = inl e; best_not = λ b s. subst (λ (z : ReadVersion). number_lt x.number z.number ≡ false) (some_is x b (sym e ∙ s)) (not_lt_self x.number); none_above = λ l i t. absurd i }
 best_some stamp best (l ∷ ls) x e = go (ltb l.number.n stamp) refl e (λ b k. best_some stamp b ls x k)
   where
-    go : (t : Bool) → ltb l.number.n stamp ≡ t → link_below stamp (cond t (Some (later_link best l)) best) ls ≡ Some x → ((b : Option Link) → link_below stamp b ls ≡ Some x → Best stamp b ls x) → Best stamp best (l ∷ ls) x
+    go : (t : Bool) → ltb l.number.n stamp ≡ t → link_below stamp (cond t (Some (later_link best l)) best) ls ≡ Some x → ((b : Option ReadVersion) → link_below stamp b ls ≡ Some x → Best stamp b ls x) → Best stamp best (l ∷ ls) x
     go true t k rest = later_best stamp best l ls x t (rest (Some (later_link best l)) k)
     go false t k rest =
         let m = rest best k in
         record {
           from = ⊎_elim (λ s. inl s) (λ i. inr (inr i.0, i.1)) m.from;
           best_not = m.best_not;
-          none_above = λ q i u. ⊎_elim (λ s. absurd (true≢false (sym u ∙ ap (λ (z : Link). ltb z.number.n stamp) s ∙ t))) (λ j. m.none_above q j u) i;
+          none_above = λ q i u. ⊎_elim (λ s. absurd (true≢false (sym u ∙ ap (λ (z : ReadVersion). ltb z.number.n stamp) s ∙ t))) (λ j. m.none_above q j u) i;
         }
 
-best_none : (stamp : ℕ) (best : Option Link) (ls : List Link) → link_below stamp best ls ≡ None → (best ≡ None) × ((l : Link) → IsIn l ls → ltb l.number.n stamp ≡ false)
+best_none : (stamp : ℕ) (best : Option ReadVersion) (ls : List ReadVersion) → link_below stamp best ls ≡ None → (best ≡ None) × ((l : ReadVersion) → IsIn l ls → ltb l.number.n stamp ≡ false)
 best_none stamp best [] e = (e, λ l i. absurd i)
 best_none stamp best (l ∷ ls) e = go (ltb l.number.n stamp) refl e (λ b k. best_none stamp b ls k)
   where
-    go : (t : Bool) → ltb l.number.n stamp ≡ t → link_below stamp (cond t (Some (later_link best l)) best) ls ≡ None → ((b : Option Link) → link_below stamp b ls ≡ None → (b ≡ None) × ((q : Link) → IsIn q ls → ltb q.number.n stamp ≡ false)) → (best ≡ None) × ((q : Link) → IsIn q (l ∷ ls) → ltb q.number.n stamp ≡ false)
+    go : (t : Bool) → ltb l.number.n stamp ≡ t → link_below stamp (cond t (Some (later_link best l)) best) ls ≡ None → ((b : Option ReadVersion) → link_below stamp b ls ≡ None → (b ≡ None) × ((q : ReadVersion) → IsIn q ls → ltb q.number.n stamp ≡ false)) → (best ≡ None) × ((q : ReadVersion) → IsIn q (l ∷ ls) → ltb q.number.n stamp ≡ false)
     go true t k rest = absurd (cc ((rest (Some (later_link best l)) k).0))
-    go false t k rest = let r = rest best k in (r.0, λ q i. ⊎_elim (λ s. ap (λ (z : Link). ltb z.number.n stamp) s ∙ t) (λ j. r.1 q j) i)
+    go false t k rest = let r = rest best k in (r.0, λ q i. ⊎_elim (λ s. ap (λ (z : ReadVersion). ltb z.number.n stamp) s ∙ t) (λ j. r.1 q j) i)
 
 txn_same : (a b : TxnId) → a.0 ≡ b.0 → a ≡ b
 txn_same a b e = λ i. record { 0 = e i }
@@ -130,7 +130,7 @@ module _ (keep : ℕ) (loaded : Rows) (h : History) (o : Obeys loaded (mvcc keep
       most : (v : Version) → IsIn v (versions loaded h key) → v.number.n < stamp → v.number.n ≤ (below loaded h key stamp).number.n
       most v i l = ⊎_elim (λ e. omega (arith, ap (λ (z : Version). z.number.n) e)) (λ j. below_over loaded h key stamp v j l) i
 
-      go : (r : Option Link) → link_below stamp None (map (link_of h key) (kept keep loaded h key)) ≡ r → r ≡ Some (link_of h key (below loaded h key stamp))
+      go : (r : Option ReadVersion) → link_below stamp None (map (link_of h key) (kept keep loaded h key)) ≡ r → r ≡ Some (link_of h key (below loaded h key stamp))
       go None e = absurd (true≢false (sym under ∙ (best_none stamp None (map (link_of h key) (kept keep loaded h key)) e).1 (link_of h key (below loaded h key stamp)) mine))
       go (Some x) e =
           let m = best_some stamp None (map (link_of h key) (kept keep loaded h key)) x e in
@@ -139,7 +139,7 @@ module _ (keep : ℕ) (loaded : Rows) (h : History) (o : Obeys loaded (mvcc keep
           (λ i.
           let f = in_map_from (link_of h key) x (kept keep loaded h key) i.0 in
           let there = in_versions loaded h key f.0 (filter_in (is_kept keep loaded h key) f.0 (in_order loaded h key) f.1).0 in
-          let n : x.number.n ≡ f.0.number.n = ap (λ (z : Link). z.number.n) f.2 in
+          let n : x.number.n ≡ f.0.number.n = ap (λ (z : ReadVersion). z.number.n) f.2 in
           let up = most f.0 there (omega (arith, n, ltb-true x.number.n stamp i.1)) in
           let down = not_above x.number (below loaded h key stamp).number (m.none_above (link_of h key (below loaded h key stamp)) mine under) in
           let same : f.0 ≡ below loaded h key stamp = apart_same (versions loaded h key) f.0 (below loaded h key stamp) (apart_versions keep loaded h key o) there (below_in keep loaded h key stamp) (omega (arith, n, up, down)) in

@@ -30,7 +30,7 @@ use Rattle.row_store.specs.declared.versions.Version.{Version as StoredVersion}
 use Rattle.row_store.specs.Stores.{version_at}
 use Rattle.control_core.specs.Leaving.{last}
 use Rattle.chain_control.specs.declared.requests.Waiter.{Waiter}
-use Rattle.chain_control.specs.declared.links.Link.{Link}
+use Rattle.chain_control.specs.declared.links.ReadVersion.{ReadVersion}
 use Rattle.chain_control.specs.declared.table.Table.{Table}
 use Rattle.chain_control.specs.Requests.{raised}
 use Rattle.chain_control.specs.Links.{link_below}
@@ -117,7 +117,7 @@ module _ (keep : ℕ) (t : Table) (loaded : Rows) (h : History) (stands : Stands
   pub kept_are : (key : Key) (row : Row) → loaded key ≡ Some row → kept_in (chain_at t.lines key) ≡ length (kept keep loaded h key)
   kept_are key row e =
       go (version_at t.shelf.store key) (chain_at t.lines key) (version_is (mvcc keep loaded) stands.tracks.kept stands.obeys key row e)
-      ∙ ap (λ (l : List Link). length l) (stands.keeps.links key row e)
+      ∙ ap (λ (l : List ReadVersion). length l) (stands.keeps.links key row e)
       ∙ length-map (kept keep loaded h key) (link_of h key)
     where
       go : (v : Option StoredVersion) (c : Option Chain) → option_map version_of v ≡ Some (latest loaded h key) → kept_in c ≡ length (links_in (opened_with v c))

@@ -26,7 +26,7 @@ use Rattle.row_store.specs.declared.versions.Version.{Version as StoredVersion}
 use Rattle.control_core.specs.Leaving.{last}
 use Rattle.control_core.proofs.Lasts.{last_latest}
 use Rattle.chain_control.specs.declared.requests.Waiter.{Waiter}
-use Rattle.chain_control.specs.declared.links.Link.{Link}
+use Rattle.chain_control.specs.declared.links.ReadVersion.{ReadVersion}
 use Rattle.chain_control.specs.declared.table.Table.{Table}
 use Rattle.chain_control.specs.Requests.{has_request}
 use Rattle.chain_control.specs.Links.{floor_of}
@@ -65,7 +65,7 @@ pub record Step (keep : ℕ) (loaded : Rows) (h h1 h2 : History) (who : Attempt)
   pub latest_same : (k : Key) → row_for k (writes_in (yeas h) who) ≡ None → latest loaded h2 k ≡ latest loaded h k
 
 -- the one version of a key that nobody has asked for
-abbrev from_version : Option Version → List Link
+abbrev from_version : Option Version → List ReadVersion
 from_version None = []
 from_version (Some v) = unread v.number v.row ∷ []
 
@@ -89,12 +89,12 @@ row_none keep who (Some n) d = refl
 row_links : (keep : ℕ) (who : Attempt) (number : Option Number) (row : Option Row) (d : Chain) → ((r : Row) → row ≡ Some r → has_request who d.requests ≡ true) → (end_row keep who number row d).links ≡ d.links ++ map (λ v. unread v.number v.row) (news number row)
 row_links keep who None row d f = nil d.links
   where
-    nil : (xs : List Link) → xs ≡ xs ++ []
+    nil : (xs : List ReadVersion) → xs ≡ xs ++ []
     nil [] = refl
     nil (x ∷ xs) = ap (λ l. x ∷ l) (nil xs)
 row_links keep who (Some n) None d f = nil d.links
   where
-    nil : (xs : List Link) → xs ≡ xs ++ []
+    nil : (xs : List ReadVersion) → xs ≡ xs ++ []
     nil [] = refl
     nil (x ∷ xs) = ap (λ l. x ∷ l) (nil xs)
 row_links keep who (Some n) (Some row) d f = ap (λ b. (cond b (overwritten keep who n row d) d).links) (f row refl)

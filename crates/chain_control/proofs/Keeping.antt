@@ -18,7 +18,7 @@ use Rattle.deneva_base.proofs.Membership.{key_tells}
 use Rattle.row_store.specs.declared.versions.Version.{Version as StoredVersion}
 use Rattle.row_store.specs.Stores.{version_at}
 use Rattle.chain_control.specs.declared.requests.Request.{Request}
-use Rattle.chain_control.specs.declared.links.Link.{Link}
+use Rattle.chain_control.specs.declared.links.ReadVersion.{ReadVersion}
 use Rattle.chain_control.specs.declared.table.Table.{Table}
 use Rattle.chain_control.specs.Links.{read_by}
 use Rattle.chain_control.specs.Chains.{Chain, with_request, with_grant, marked}
@@ -35,7 +35,7 @@ opened_some None c = refl
 opened_some (Some v) c = refl
 
 -- a version with another mark
-abbrev pub mark : Version → ℕ → Link
+abbrev pub mark : Version → ℕ → ReadVersion
 mark v n = record { number = v.number; row = v.row; read = n }
 
 max_zero : (n : ℕ) → max 0 n ≡ n
@@ -149,7 +149,7 @@ module _ (keep : ℕ) (loaded : Rows) (h : History) (who : Attempt) (stamp : ℕ
   pub waiting_keeps : (asked : Request) (c : Chain) (old new : Table) → Keeps keep loaded (state_of old) h → floor keep loaded h key ≤ (below loaded h key stamp).number.n → (state_of old).chains key ≡ Some c → Waiting key asked old new → Keeps keep loaded (state_of new) (Ask who stamp key mode Waits ∷ h)
   waiting_keeps asked c old new k passes there g = record {
     links = λ q r e. ap links_in_virtual (virtual q) ∙ k.links q r e ∙ ap (map (link_of h q)) (filter_same (is_kept keep loaded h q) (is_kept keep loaded (Ask who stamp key mode Waits ∷ h) q) (in_order loaded h q) (λ v i. waiting_kept q v passes));
-    floor = λ q r e. ap (λ (z : List Link × ℕ). z.1) (virtual q) ∙ k.floor q r e;
+    floor = λ q r e. ap (λ (z : List ReadVersion × ℕ). z.1) (virtual q) ∙ k.floor q r e;
   }
     where
       s : State
@@ -158,13 +158,13 @@ module _ (keep : ℕ) (loaded : Rows) (h : History) (who : Attempt) (stamp : ℕ
       s' : State
       s' = state_of new
 
-      links_in_virtual : List Link × ℕ → List Link
+      links_in_virtual : List ReadVersion × ℕ → List ReadVersion
       links_in_virtual z = z.0
 
-      both : Option Chain → List Link × ℕ
+      both : Option Chain → List ReadVersion × ℕ
       both x = (links_in x, floor_in x)
 
-      virtual : (q : Key) → ◌≡◌ {A = List Link × ℕ} (links_in (opened_with (version_at s'.shelf.store q) (s'.chains q)), floor_in (opened_with (version_at s'.shelf.store q) (s'.chains q))) (links_in (opened_with (version_at s.shelf.store q) (s.chains q)), floor_in (opened_with (version_at s.shelf.store q) (s.chains q)))
+      virtual : (q : Key) → ◌≡◌ {A = List ReadVersion × ℕ} (links_in (opened_with (version_at s'.shelf.store q) (s'.chains q)), floor_in (opened_with (version_at s'.shelf.store q) (s'.chains q))) (links_in (opened_with (version_at s.shelf.store q) (s.chains q)), floor_in (opened_with (version_at s.shelf.store q) (s.chains q)))
       virtual q = ⊎_elim
           (λ x.
           ap both (ap (opened_with (version_at s'.shelf.store q)) x.1 ∙ ap (λ z. opened_with (version_at s'.shelf.store q) (option_map (with_request asked) z)) there ∙ opened_some (version_at s'.shelf.store q) (with_request asked c))

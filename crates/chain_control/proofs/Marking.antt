@@ -15,7 +15,7 @@ use Rattle.deneva_base.proofs.Membership.{key_tells, reading_decides}
 use Rattle.protocol_rules.proofs.Known.{Known}
 use Rattle.protocol_rules.proofs.Traced.{asked_found}
 use Rattle.chain_control.specs.declared.requests.Waiter.{Waiter}
-use Rattle.chain_control.specs.declared.links.Link.{Link}
+use Rattle.chain_control.specs.declared.links.ReadVersion.{ReadVersion}
 use Rattle.chain_control.specs.Links.{read_by}
 use Rattle.key_table.specs.Keys.{same_key}
 use Rattle.chain_control.specs.Standing.{link_of}
@@ -43,10 +43,10 @@ greatest_map f g (x ∷ xs) = ap (max (f (g x))) (greatest_map f g xs)
 abbrev pub hit : Key → Number → Waiter → ℕ
 hit k n w = cond (same_key w.key k && number_eq n w.version) w.stamp 0
 
-abbrev with_read : Link → ℕ → Link
+abbrev with_read : ReadVersion → ℕ → ReadVersion
 with_read l n = record { number = l.number; row = l.row; read = n }
 
-one_read : (k : Key) (w : Waiter) (l : Link) → cond (same_key w.key k) (read_by w.version w.stamp l) l ≡ with_read l (max (hit k l.number w) l.read)
+one_read : (k : Key) (w : Waiter) (l : ReadVersion) → cond (same_key w.key k) (read_by w.version w.stamp l) l ≡ with_read l (max (hit k l.number w) l.read)
 one_read k w l = go (same_key w.key k) (number_eq l.number w.version)
   where
     go : (a b : Bool) → cond a (with_read l (cond b (max l.read w.stamp) l.read)) l ≡ with_read l (max (cond (a && b) w.stamp 0) l.read)
@@ -54,14 +54,14 @@ one_read k w l = go (same_key w.key k) (number_eq l.number w.version)
     go true false = ap (with_read l) (omega arith)
     go false b = ap (with_read l) (omega arith)
 
-pub reads_are : (ws : List Waiter) (k : Key) (l : Link) → reads_by ws k l ≡ with_read l (max (greatest_by (hit k l.number) ws) l.read)
+pub reads_are : (ws : List Waiter) (k : Key) (l : ReadVersion) → reads_by ws k l ≡ with_read l (max (greatest_by (hit k l.number) ws) l.read)
 reads_are [] k l = ap (with_read l) (omega arith)
 reads_are (w ∷ ws) k l =
     ap (reads_by ws k) (one_read k w l)
     ∙ reads_are ws k (with_read l (max (hit k l.number w) l.read))
     ∙ ap (with_read l) (omega arith)
 
-pub reads_none : (ws : List Waiter) (k : Key) (l : Link) → ((w : Waiter) → IsIn w ws → w.key ≢ k) → reads_by ws k l ≡ l
+pub reads_none : (ws : List Waiter) (k : Key) (l : ReadVersion) → ((w : Waiter) → IsIn w ws → w.key ≢ k) → reads_by ws k l ≡ l
 reads_none [] k l n = refl
 reads_none (w ∷ ws) k l n = ⊎_elim (λ t. absurd (n w (inl refl) t.1)) (λ e. ap (λ b. reads_by ws k (cond b (read_by w.version w.stamp l) l)) e.0 ∙ reads_none ws k l (λ x i. n x (inr i))) (same_tells w.key k)
 

@@ -4,13 +4,13 @@ use Rattle.std.specs.List.{list_any}
 use Rattle.std.specs.Map.{lookup}
 use Rattle.deneva_base.specs.declared.keys.Key.{Key}
 use Rattle.key_table.proofs.Places.{same_tells}
-use Rattle.chain_control.specs.declared.line.Line.{Line}
+use Rattle.chain_control.specs.declared.line.KeyVersions.{KeyVersions}
 use Rattle.chain_control.specs.Chains.{chain_of}
 use Rattle.key_table.specs.Keys.{same_key}
 use Rattle.chain_control.specs.Tables.{no_one}
 
 -- a table that has what it had
-pub keep_chain : (es fs : List (Key × Line)) (key : Key) (new : Line) → Some (chain_of new) ≡ option_map chain_of (lookup (same_key key) es) → ((other : Key) → lookup (same_key other) fs ≡ cond (same_key key other) (Some new) (lookup (same_key other) es)) → (other : Key) → option_map chain_of (lookup (same_key other) fs) ≡ option_map chain_of (lookup (same_key other) es)
+pub keep_chain : (es fs : List (Key × KeyVersions)) (key : Key) (new : KeyVersions) → Some (chain_of new) ≡ option_map chain_of (lookup (same_key key) es) → ((other : Key) → lookup (same_key other) fs ≡ cond (same_key key other) (Some new) (lookup (same_key other) es)) → (other : Key) → option_map chain_of (lookup (same_key other) fs) ≡ option_map chain_of (lookup (same_key other) es)
 keep_chain es fs key new is h other =
     ap (option_map chain_of) (h other) ∙ ⊎_elim (λ t. rw t.0 (is ∙ ap (λ k. option_map chain_of (lookup (same_key k) es)) t.1)) (λ f. rw f.0 refl) (same_tells key other)
 

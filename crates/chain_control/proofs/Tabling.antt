@@ -14,7 +14,7 @@ use Rattle.std.proofs.lemmas.List.{map-id}
 use Rattle.shelf.proofs.Counting.{map_two}
 use Rattle.chain_control.specs.declared.requests.Request.{Request}
 use Rattle.chain_control.specs.declared.requests.Waiter.{Waiter}
-use Rattle.chain_control.specs.declared.links.Link.{Link}
+use Rattle.chain_control.specs.declared.links.ReadVersion.{ReadVersion}
 use Rattle.chain_control.specs.Requests.{has_request, overtaken, grants_to}
 use Rattle.chain_control.specs.Links.{read_by}
 use Rattle.chain_control.specs.Chains.{Chain, overwritten, committed, granted, trimmed}
@@ -116,7 +116,7 @@ abbrev pub granted_by : List Waiter → Key → Request → Request
 granted_by [] key r = r
 granted_by (w ∷ ws) key r = granted_by ws key (cond (same_key w.key key) (grants_to w.who r) r)
 
-abbrev pub reads_by : List Waiter → Key → Link → Link
+abbrev pub reads_by : List Waiter → Key → ReadVersion → ReadVersion
 reads_by [] key l = l
 reads_by (w ∷ ws) key l = reads_by ws key (cond (same_key w.key key) (read_by w.version w.stamp l) l)
 

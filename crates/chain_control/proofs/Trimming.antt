@@ -22,7 +22,7 @@ use Rattle.protocol_rules.proofs.Belows.{listed, greatest_le}
 use Rattle.protocol_rules.proofs.Mvccs.{stamping}
 use Rattle.protocol_rules.proofs.Stamping.{wakes_law, state}
 use Rattle.chain_control.specs.declared.requests.Request.{Request}
-use Rattle.chain_control.specs.declared.links.Link.{Link}
+use Rattle.chain_control.specs.declared.links.ReadVersion.{ReadVersion}
 use Rattle.chain_control.specs.Requests.{awaits}
 use Rattle.chain_control.specs.Links.{as_great, floor_of}
 use Rattle.chain_control.specs.Chains.{unread}
@@ -216,22 +216,22 @@ module _ (keep : ℕ) (loaded : Rows) (h h2 : History) (who : Attempt) (number :
       whole : List Version
       whole = in_order loaded h k ++ new k
 
-      nth_links : greatest_by (λ (l : Link). cond (leb keep (as_great (map (link_of h k) (filter (is_kept keep loaded h k) (in_order loaded h k) ++ new k)) l.number)) l.number.n 0) (map (link_of h k) (filter (is_kept keep loaded h k) (in_order loaded h k) ++ new k)) ≡ nth_greatest keep (filter (is_kept keep loaded h k) (in_order loaded h k) ++ new k)
+      nth_links : greatest_by (λ (l : ReadVersion). cond (leb keep (as_great (map (link_of h k) (filter (is_kept keep loaded h k) (in_order loaded h k) ++ new k)) l.number)) l.number.n 0) (map (link_of h k) (filter (is_kept keep loaded h k) (in_order loaded h k) ++ new k)) ≡ nth_greatest keep (filter (is_kept keep loaded h k) (in_order loaded h k) ++ new k)
       nth_links =
-          greatest_map (λ (l : Link). cond (leb keep (as_great (map (link_of h k) xs) l.number)) l.number.n 0) (link_of h k) xs
+          greatest_map (λ (l : ReadVersion). cond (leb keep (as_great (map (link_of h k) xs) l.number)) l.number.n 0) (link_of h k) xs
           ∙ each (filter (is_kept keep loaded h k) (in_order loaded h k) ++ new k)
         where
           each : (vs : List Version) → greatest_by (λ (v : Version). cond (leb keep (as_great (map (link_of h k) (filter (is_kept keep loaded h k) (in_order loaded h k) ++ new k)) v.number)) v.number.n 0) vs ≡ greatest_by (λ v. cond (leb keep (versions_as_great (filter (is_kept keep loaded h k) (in_order loaded h k) ++ new k) v)) v.number.n 0) vs
           each [] = refl
-          each (v ∷ vs) = ap₂ (λ m n. max m n) (ap (λ n. cond (leb keep n) v.number.n 0) (count_map (λ (l : Link). not (number_lt l.number v.number)) (link_of h k) (filter (is_kept keep loaded h k) (in_order loaded h k) ++ new k))) (each vs)
+          each (v ∷ vs) = ap₂ (λ m n. max m n) (ap (λ n. cond (leb keep n) v.number.n 0) (count_map (λ (l : ReadVersion). not (number_lt l.number v.number)) (link_of h k) (filter (is_kept keep loaded h k) (in_order loaded h k) ++ new k))) (each vs)
 
       nth_whole : nth_greatest keep (in_order loaded h k ++ new k) ≡ nth_greatest keep (versions loaded h2 k)
       nth_whole = ap (nth_greatest keep) (sym (order_is k)) ∙ nth_order keep loaded h2 k
 
-      go : (b : Bool) → eqb keep 0 ≡ b → cond (eqb keep 0) 0 (greatest_by (λ (l : Link). cond (leb keep (as_great (map (link_of h k) (filter (is_kept keep loaded h k) (in_order loaded h k) ++ new k)) l.number)) l.number.n 0) (map (link_of h k) (filter (is_kept keep loaded h k) (in_order loaded h k) ++ new k))) ≡ cond (eqb keep 0) 0 (nth_greatest keep (versions loaded h2 k))
-      go true e = ap (λ b. cond b 0 (greatest_by (λ (l : Link). cond (leb keep (as_great (map (link_of h k) (filter (is_kept keep loaded h k) (in_order loaded h k) ++ new k)) l.number)) l.number.n 0) (map (link_of h k) (filter (is_kept keep loaded h k) (in_order loaded h k) ++ new k)))) e ∙ sym (ap (λ b. cond b 0 (nth_greatest keep (versions loaded h2 k))) e)
+      go : (b : Bool) → eqb keep 0 ≡ b → cond (eqb keep 0) 0 (greatest_by (λ (l : ReadVersion). cond (leb keep (as_great (map (link_of h k) (filter (is_kept keep loaded h k) (in_order loaded h k) ++ new k)) l.number)) l.number.n 0) (map (link_of h k) (filter (is_kept keep loaded h k) (in_order loaded h k) ++ new k))) ≡ cond (eqb keep 0) 0 (nth_greatest keep (versions loaded h2 k))
+      go true e = ap (λ b. cond b 0 (greatest_by (λ (l : ReadVersion). cond (leb keep (as_great (map (link_of h k) (filter (is_kept keep loaded h k) (in_order loaded h k) ++ new k)) l.number)) l.number.n 0) (map (link_of h k) (filter (is_kept keep loaded h k) (in_order loaded h k) ++ new k)))) e ∙ sym (ap (λ b. cond b 0 (nth_greatest keep (versions loaded h2 k))) e)
       go false e =
-          ap (λ b. cond b 0 (greatest_by (λ (l : Link). cond (leb keep (as_great (map (link_of h k) (filter (is_kept keep loaded h k) (in_order loaded h k) ++ new k)) l.number)) l.number.n 0) (map (link_of h k) (filter (is_kept keep loaded h k) (in_order loaded h k) ++ new k)))) e
+          ap (λ b. cond b 0 (greatest_by (λ (l : ReadVersion). cond (leb keep (as_great (map (link_of h k) (filter (is_kept keep loaded h k) (in_order loaded h k) ++ new k)) l.number)) l.number.n 0) (map (link_of h k) (filter (is_kept keep loaded h k) (in_order loaded h k) ++ new k)))) e
           ∙ nth_links
           ∙ nth_part keep (filter (is_kept keep loaded h k) (in_order loaded h k) ++ new k) (in_order loaded h k ++ new k)
           (λ x i. ⊎_elim (λ j. in_left x (in_order loaded h k) (new k) (filter_in (is_kept keep loaded h k) x (in_order loaded h k) j).0) (λ j. in_right x (in_order loaded h k) (new k) j) (in_cases x (filter (is_kept keep loaded h k) (in_order loaded h k)) (new k) i))

@@ -11,8 +11,8 @@ use Rattle.deneva_base.specs.Keys.{attempt_eq}
 use Rattle.deneva_base.specs.Modes.{reads, writes}
 use Rattle.row_store.specs.declared.versions.Version.{Version}
 use Rattle.chain_control.specs.declared.requests.Request.{Request}
-use Rattle.chain_control.specs.declared.links.Link.{Link}
-use Rattle.chain_control.specs.declared.line.Line.{Line}
+use Rattle.chain_control.specs.declared.links.ReadVersion.{ReadVersion}
+use Rattle.chain_control.specs.declared.line.KeyVersions.{KeyVersions}
 use Rattle.chain_control.specs.declared.requests.Waiter.{Waiter}
 use Rattle.chain_control.specs.Requests.{put_request, grants_to, overtaken, awaits, has_request, goes_past, writer_after, waiter_for}
 use Rattle.chain_control.specs.Links.{link_below, floor_of, read_by}
@@ -20,14 +20,14 @@ use Rattle.chain_control.specs.Links.{link_below, floor_of, read_by}
 -- the unended accesses by rising stamp, the versions in the order in which they were committed, and the floor
 pub record Chain : Type 0 where
   pub requests : List Request
-  pub links : List Link
+  pub links : List ReadVersion
   pub floor : ℕ
 
-abbrev pub chain_of : Line → Chain
+abbrev pub chain_of : KeyVersions → Chain
 chain_of l = record { requests = l.requests.items; links = l.links.items; floor = l.floor }
 
 -- a version that nobody was granted
-abbrev pub unread : Number → List Cell → Link
+abbrev pub unread : Number → List Cell → ReadVersion
 unread number row = record { number = number; row = row; read = 0 }
 
 -- the one version of a key that nobody has asked for
@@ -35,7 +35,7 @@ abbrev pub opened : Version → Chain
 opened v = record { requests = []; links = unread v.number v.row ∷ []; floor = 0 }
 
 -- the version that a write would come after was granted to a later stamp
-abbrev pub refused_by : Key → Request → Option Link → Option Cause
+abbrev pub refused_by : Key → Request → Option ReadVersion → Option Cause
 refused_by key r None = None
 refused_by key r (Some l) = if writes r.mode && nat_lt r.stamp l.read then Some (ReadLater key l.read) else None
 
@@ -43,7 +43,7 @@ abbrev pub refusal : Key → Request → Chain → Option Cause
 refusal key r c = if nat_lt r.stamp c.floor then Some (Trimmed key c.floor) else refused_by key r (link_below r.stamp None c.links)
 
 -- the n of the version below a stamp
-abbrev pub low_in : Option Link → ℕ
+abbrev pub low_in : Option ReadVersion → ℕ
 low_in None = 0
 low_in (Some l) = l.number.n
 
@@ -69,7 +69,7 @@ without who c = record { requests = filter (λ r. not (attempt_eq r.who who)) c.
 abbrev pub overtaken_by : Number → Chain → Chain
 overtaken_by number c = record { requests = map (overtaken number) c.requests; links = c.links; floor = c.floor }
 
-abbrev pub with_link : Link → Chain → Chain
+abbrev pub with_link : ReadVersion → Chain → Chain
 with_link l c = record { requests = c.requests; links = c.links ++ l ∷ []; floor = c.floor }
 
 -- the attempt has written the key under a number
@@ -88,7 +88,7 @@ abbrev pub granted : Attempt → Number → ℕ → Chain → Chain
 granted who number stamp c = record { requests = map (grants_to who) c.requests; links = map (read_by number stamp) c.links; floor = c.floor }
 
 -- a version stays that is not below the floor, or that a waiter is to read
-abbrev pub stays : Chain → Link → Bool
+abbrev pub stays : Chain → ReadVersion → Bool
 stays c l = nat_le c.floor l.number.n || list_any (awaits l.number) c.requests
 
 abbrev pub trimmed : Chain → Chain

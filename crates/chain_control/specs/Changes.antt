@@ -14,7 +14,7 @@ use Rattle.row_store.specs.declared.versions.Version.{Version}
 use Rattle.row_store.specs.Stores.{Seen, version_at}
 use Rattle.chain_control.specs.declared.requests.Request.{Request}
 use Rattle.chain_control.specs.declared.requests.Waiter.{Waiter}
-use Rattle.chain_control.specs.declared.links.Link.{Link}
+use Rattle.chain_control.specs.declared.links.ReadVersion.{ReadVersion}
 use Rattle.chain_control.specs.declared.lines.Lines.{Lines}
 use Rattle.chain_control.specs.declared.table.Table.{Table}
 use Rattle.chain_control.specs.Chains.{Chain, with_request, with_grant}
@@ -25,24 +25,24 @@ use Rattle.shelf.specs.Seen.{Held}
 use Rattle.shelf.specs.Shelves.{held, IsFresh, Notes, Promises, MayReserve, Ends}
 
 -- the row and the number of a version, or no cells
-abbrev pub read_of : Option Link → List Cell × Number
+abbrev pub read_of : Option ReadVersion → List Cell × Number
 read_of None = ([], loaded_version)
 read_of (Some l) = (l.row, l.number)
 
 -- what an access is granted where this is the version below its stamp
-abbrev pub read_in : Mode → Option Link → List Cell × Number
+abbrev pub read_in : Mode → Option ReadVersion → List Cell × Number
 read_in mode best = if reads mode then read_of best else ([], loaded_version)
 
 -- a number stands between that version and the stamp
-abbrev pub above : Number → Option Link → Bool
+abbrev pub above : Number → Option ReadVersion → Bool
 above number None = true
 above number (Some l) = number_lt l.number number
 
-abbrev pub comes_after : Number → ℕ → Option Link → Bool
+abbrev pub comes_after : Number → ℕ → Option ReadVersion → Bool
 comes_after number stamp best = nat_lt number.n stamp && above number best
 
 -- the version below the stamp after a row came under a number, if there are both
-abbrev pub read_after : Option Number → Option (List Cell) → ℕ → Option Link → List Cell × Number
+abbrev pub read_after : Option Number → Option (List Cell) → ℕ → Option ReadVersion → List Cell × Number
 read_after None row stamp best = read_of best
 read_after (Some number) None stamp best = read_of best
 read_after (Some number) (Some row) stamp best = if comes_after number stamp best then (row, number) else read_of best
@@ -54,7 +54,7 @@ wake_for t number rows w =
     record { who = w.who; key = w.key; row = r.0; version = r.1; bound = 0 }
 
 -- the request waits for that version
-abbrev pub waiting : Request → Option Link → Request
+abbrev pub waiting : Request → Option ReadVersion → Request
 waiting r best = record { who = r.who; stamp = r.stamp; mode = r.mode; waits = Some (read_of best).1 }
 
 -- a table of this store, on which nothing was called

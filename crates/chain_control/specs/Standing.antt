@@ -11,7 +11,7 @@ use Rattle.protocol_rules.specs.Versions.{below}
 use Rattle.protocol_rules.specs.Mvcc.{floor, top_reader, mvcc}
 use Rattle.row_store.specs.Stores.{version_at}
 use Rattle.chain_control.specs.declared.requests.Request.{Request}
-use Rattle.chain_control.specs.declared.links.Link.{Link}
+use Rattle.chain_control.specs.declared.links.ReadVersion.{ReadVersion}
 use Rattle.chain_control.specs.declared.table.Table.{Table}
 use Rattle.chain_control.specs.declared.chains.Chains.{Chains}
 use Rattle.chain_control.specs.Chains.{Chain}
@@ -71,11 +71,11 @@ pub record Tracks (loaded : Rows) (s : State) (h : History) : Type 0 where
   pub waiting : s.waiting ≡ length (waits h)
 
 -- what is kept of a version: the greatest stamp to which it was granted
-abbrev pub link_of : History → Key → Version → Link
+abbrev pub link_of : History → Key → Version → ReadVersion
 link_of h key v = record { number = v.number; row = v.row; read = top_reader h key v.number }
 
 -- what is kept of a key, also where nobody has asked for it yet
-abbrev pub links_in : Option Chain → List Link
+abbrev pub links_in : Option Chain → List ReadVersion
 links_in None = []
 links_in (Some c) = c.links
 

@@ -12,7 +12,7 @@ use Rattle.deneva_base.specs.Modes.{reads}
 use Rattle.row_store.specs.declared.versions.Version.{Version}
 use Rattle.chain_control.specs.declared.requests.Request.{Request}
 use Rattle.chain_control.specs.declared.requests.Waiter.{Waiter}
-use Rattle.chain_control.specs.declared.links.Link.{Link}
+use Rattle.chain_control.specs.declared.links.ReadVersion.{ReadVersion}
 use Rattle.chain_control.specs.declared.lines.Lines.{Lines}
 use Rattle.key_table.specs.Keys.{same_key}
 use Rattle.chain_control.specs.Requests.{is_stopped, stamp_among}
@@ -26,7 +26,7 @@ abbrev pub opened_in : Version → Option Chain → Option Chain
 opened_in v None = Some (opened v)
 opened_in v (Some c) = Some c
 
-abbrev pub below_in : ℕ → Option Chain → Option Link
+abbrev pub below_in : ℕ → Option Chain → Option ReadVersion
 below_in stamp None = None
 below_in stamp (Some c) = link_below stamp None c.links
 

@@ -8,8 +8,8 @@ ghost use Rattle.key_table.specs.Keys.{same_key};
 ghost use Rattle.key_table.specs.Tables.{changed};
 ghost use Rattle.chain_control.specs.Tables.{chain_at, below_in, refusal_in, stopped_in, stamp_in, kept_in, opened_in, new_of, goers_in, goers_over, key_of, row_key, waiter_key, ends_at, wakes_at, trims_at, commits_at, SetsChain, SameChains, no_one};
 
-use crate::line::Line;
-use crate::links::Link;
+use crate::line::KeyVersions;
+use crate::links::ReadVersion;
 use crate::requests::{Request, Waiter};
 use deneva_base::{Attempt, Cause, Key, Keyed, NoMemory, Number, Row, RowList};
 use row_store::Version;
@@ -20,7 +20,7 @@ use std::collections::HashMap;
 #[derive(Drop)]
 pub(crate) struct Lines {
     alloc: Global,
-    lines: HashMap<Key, Line>,
+    lines: HashMap<Key, KeyVersions>,
 }
 
 /// The number under which a key is written, where it is.
@@ -51,13 +51,13 @@ impl Lines {
         if self.lines.contains_key(&key) {
             return Ok(());
         }
-        let line = Line::open(self.alloc, version)?;
+        let line = KeyVersions::open(self.alloc, version)?;
         self.lines.insert(key, line)?;
         Ok(())
     }
 
     /// The version of the greatest number below the stamp.
-    pub fn below(&self, key: Key, stamp: u64) -> Option<&Link>
+    pub fn below(&self, key: Key, stamp: u64) -> Option<&ReadVersion>
         ensures { option_map (λ l. l.now) result ≡ below_in stamp (chain_at self.now key) }
     {
         match self.lines.get(&key) {

@@ -6,13 +6,13 @@ use deneva_base::{Number, Row};
 
 /// A version, and the greatest stamp to which it was granted, or 0.
 #[derive(Debug, Drop)]
-pub(crate) struct Link {
+pub(crate) struct ReadVersion {
     pub number: Number,
     pub row: Row,
     pub read: u64,
 }
 
-impl Link {
+impl ReadVersion {
     /// Notes that the version of this number was granted to a stamp.
     fn read_by(&mut self, number: Number, stamp: u64)
         ensures { self.new ≡ read_by number stamp self.old }
@@ -24,10 +24,10 @@ impl Link {
 }
 
 /// The version of the greatest number below the stamp.
-pub(crate) fn link_below(links: &[Link], stamp: u64) -> Option<&Link>
+pub(crate) fn link_below(links: &[ReadVersion], stamp: u64) -> Option<&ReadVersion>
     ensures { option_map (λ l. l.now) result ≡ link_below stamp None links.now }
 {
-    let mut best: Option<&Link> = None;
+    let mut best: Option<&ReadVersion> = None;
     for link in links {
         if link.number.n < stamp {
             best = match best {
@@ -40,7 +40,7 @@ pub(crate) fn link_below(links: &[Link], stamp: u64) -> Option<&Link>
 }
 
 /// How many have no lesser number.
-fn as_great(links: &[Link], number: Number) -> usize
+fn as_great(links: &[ReadVersion], number: Number) -> usize
     ensures { result ≡ as_great links.now number }
 {
     let mut count = 0;
@@ -53,7 +53,7 @@ fn as_great(links: &[Link], number: Number) -> usize
 }
 
 /// The number of the last of the `keep` greatest versions: 0 where there are fewer, or where all are kept.
-pub(crate) fn floor(links: &[Link], keep: usize) -> u64
+pub(crate) fn floor(links: &[ReadVersion], keep: usize) -> u64
     ensures { result ≡ floor_of keep links.now }
 {
     let mut floor = 0;
@@ -69,7 +69,7 @@ pub(crate) fn floor(links: &[Link], keep: usize) -> u64
 }
 
 /// Notes that the version of this number was granted to a stamp.
-pub(crate) fn read(links: &mut [Link], number: Number, stamp: u64)
+pub(crate) fn read(links: &mut [ReadVersion], number: Number, stamp: u64)
     ensures { links.new ≡ map (read_by number stamp) links.old }
 {
     for link in links.iter_mut() {

@@ -12,7 +12,7 @@ ghost use Rattle.shelf.specs.Shelves.{held};
 ghost use Rattle.chain_control.specs.Changes.{read_in, read_of, read_after, comes_after, waiting, IsNew, Opens, Stays, Grants, Waiting, MayNote, Votes, MayVote, EndsAndWakes, wake_for};
 
 use crate::lines::Lines;
-use crate::links::Link;
+use crate::links::ReadVersion;
 use crate::requests::{Request, Waiter};
 use control_core::PrepareNoMemory;
 use deneva_base::{
@@ -31,7 +31,7 @@ pub(crate) struct Table {
 }
 
 /// The row of a version with its number, or no cells.
-fn share_link(alloc: Global, link: Option<&Link>) -> Result<(Row, Number), NoMemory>
+fn share_link(alloc: Global, link: Option<&ReadVersion>) -> Result<(Row, Number), NoMemory>
     ensures { IfOk result (λ r. r ≡ read_of (option_map (λ l. l.now) link.entry)) }
 {
     match link {

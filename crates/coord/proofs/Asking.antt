@@ -15,7 +15,7 @@ use Rattle.server_core.specs.declared.messages.Msg.{Msg}
 use Rattle.server_core.specs.declared.messages.Msg.TheVariants.{Granted, Refused, Abort}
 use Rattle.server_core.specs.Coordinator.{coordinator, next_ask, prepare_to, effect_of, reads_of, bound_of, to_all, ask_of}
 use Rattle.server_core.specs.Replies.{Reply, all_voted, all_closed}
-use Rattle.server_core.specs.Setting.{Setting, take_first, parts_of, parts_for}
+use Rattle.server_core.specs.Setting.{Setting, take_first, partitions_of, participants_for}
 use Rattle.server_core.specs.VotingFits.{AllFit, IsAsking}
 use Rattle.server_core.proofs.counts.Prepares.{slice_some, slice_none}
 use Rattle.coord.specs.Bounds.{bound_with}
@@ -80,8 +80,8 @@ module _ (s : Setting) (p : ℕ) (ms : List Msg) (who : Attempt) where
       here : slice_get t.accesses t.granted ≡ Some it
       here = ap₂ (λ (l : List Access) (n : ℕ). slice_get l n) is asks.count ∙ a.2
 
-      parts_same : participants_of s t ≡ parts_for s x
-      parts_same = ap (parts_of s.parts) is
+      parts_same : participants_of s t ≡ participants_for s x
+      parts_same = ap (partitions_of s.parts) is
 
       phase_with : 1 ≤ s.parts → (o : Option Access) → slice_get (s.accesses x) (suc (length h.grants)) ≡ o → IsInPhase s x (record { started = h.started; stamp = h.stamp; grants = r ∷ h.grants; refused = h.refused; votes = h.votes; closes = h.closes }) (going_on s (taken it r t) o)
       phase_with one (Some b) e = inl (record {
@@ -100,8 +100,8 @@ module _ (s : Setting) (p : ℕ) (ms : List Msg) (who : Attempt) where
             unrefused = asks.unrefused;
             all = omega (arith, asks.more, slice_none (s.accesses x) (suc (length h.grants)) e);
             ballots = asks.ballots ∙ ap reverse (sym asks.votes);
-            left = parts_same ∙ sym (voted_first (parts_for s x)) ∙ ap (λ bs. left_to_vote bs (parts_for s x)) (sym asks.votes);
-            more = ap (λ bs. all_voted bs (parts_for s x)) asks.votes ∙ none_voted (parts_for s x) q.0 q.1;
+            left = parts_same ∙ sym (voted_first (participants_for s x)) ∙ ap (λ bs. left_to_vote bs (participants_for s x)) (sym asks.votes);
+            more = ap (λ bs. all_voted bs (participants_for s x)) asks.votes ∙ none_voted (participants_for s x) q.0 q.1;
             closes = asks.closes;
           }))
 
@@ -167,12 +167,12 @@ module _ (s : Setting) (p : ℕ) (ms : List Msg) (who : Attempt) where
     refusal : heard_of s p (Refused who key cause ∷ ms) who ≡ record { started = h.started; stamp = h.stamp; grants = h.grants; refused = true; votes = h.votes; closes = h.closes }
     refusal = rw (itself who) refl
 
-    asked_same : (t : State) → t.accesses ≡ s.accesses x → Asks s x h t → asked_of s t ≡ parts_of s.parts (take_first (suc (length h.grants)) (s.accesses x))
-    asked_same t is asks = ap₂ (λ (l : List Access) (n : ℕ). parts_of s.parts (take_first (suc n) l)) is asks.count
+    asked_same : (t : State) → t.accesses ≡ s.accesses x → Asks s x h t → asked_of s t ≡ partitions_of s.parts (take_first (suc (length h.grants)) (s.accesses x))
+    asked_same t is asks = ap₂ (λ (l : List Access) (n : ℕ). partitions_of s.parts (take_first (suc n) l)) is asks.count
 
     refused_phase : 1 ≤ s.parts → (t : State) → t.accesses ≡ s.accesses x → Asks s x h t → IsInPhase s x (record { started = h.started; stamp = h.stamp; grants = h.grants; refused = true; votes = h.votes; closes = h.closes }) (refused s t)
     refused_phase one t is asks =
-        let told : List ℕ = parts_of s.parts (take_first (suc (length h.grants)) (s.accesses x)) in
+        let told : List ℕ = partitions_of s.parts (take_first (suc (length h.grants)) (s.accesses x)) in
         let q = some_part s.parts (take_first (suc (length h.grants)) (s.accesses x)) one (first_some (length h.grants) (s.accesses x) (omega (arith, asks.more))) in
         inr (inr (inl (record {
           ends = inl refl;

@@ -11,7 +11,7 @@ use Rattle.server_core.specs.Coordinator.{reads_of}
 use Rattle.server_core.specs.Proper.{keys_in}
 use Rattle.server_core.specs.Replies.{Reply, all_voted, all_closed}
 use Rattle.server_core.specs.declared.ballots.Ballot.{Ballot}
-use Rattle.server_core.specs.Setting.{parts_of}
+use Rattle.server_core.specs.Setting.{partitions_of}
 use Rattle.server_core.proofs.lists.Parts.{parts_in}
 use Rattle.coord.specs.Left.{left_to_vote, left_to_close}
 use Rattle.coord.specs.States.{row_read}
@@ -34,7 +34,7 @@ pub some_to_close : (cs qs : List ℕ) (x : ℕ) (xs : List ℕ) → left_to_clo
 some_to_close cs qs x xs e = closed_none cs qs ∙ ap (λ (l : List ℕ). length l == 0) e ∙ later_zero (length xs)
 
 -- some access is at some partition
-pub some_part : (parts : ℕ) (as' : List Access) → 1 ≤ parts → 1 ≤ length as' → (q : ℕ) × IsIn q (parts_of parts as')
+pub some_part : (parts : ℕ) (as' : List Access) → 1 ≤ parts → 1 ≤ length as' → (q : ℕ) × IsIn q (partitions_of parts as')
 some_part parts [] one some = absurd (omega (arith, some))
 some_part parts (a ∷ as') one some = (partition_of a.key parts, parts_in parts a.key (a ∷ as') one (go (key_eq a.key a.key) (same a.key)))
   where

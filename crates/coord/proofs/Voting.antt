@@ -11,7 +11,7 @@ use Rattle.server_core.specs.declared.messages.Msg.TheVariants.{Yes, No}
 use Rattle.server_core.specs.Coordinator.{coordinator, decision, first_no, to_all, polled}
 use Rattle.server_core.specs.Replies.{votes_for, all_closed}
 use Rattle.server_core.specs.declared.ballots.Ballot.{Ballot}
-use Rattle.server_core.specs.Setting.{Setting, parts_of, parts_for, participants}
+use Rattle.server_core.specs.Setting.{Setting, partitions_of, participants_for, participants}
 use Rattle.server_core.specs.VotingFits.{AllFit, HasAll, HasVoted}
 use Rattle.coord.specs.Left.{left_to_vote, left_to_close}
 use Rattle.coord.specs.States.{State, voted, voted_as, voted_mails, verdict_mails, participants_of, without}
@@ -33,7 +33,7 @@ module _ (s : Setting) (p : ℕ) (ms : List Msg) (who : Attempt) (b : Ballot) (t
   h = heard_of s p ms who
 
   abbrev qs : List ℕ
-  qs = parts_for s x
+  qs = participants_for s x
 
   module _ (t : State) (is : t.accesses ≡ s.accesses x) (polls : Polls s x h t) where
     left_is : without b.part t.left ≡ left_to_vote (b ∷ h.votes) qs
@@ -43,7 +43,7 @@ module _ (s : Setting) (p : ℕ) (ms : List Msg) (who : Attempt) (b : Ballot) (t
     ballots_more = ap (λ (l : List Ballot). l ++ b ∷ []) polls.ballots ∙ sym (reverse_more b h.votes)
 
     parts_same : participants_of s t ≡ qs
-    parts_same = ap (parts_of s.parts) is
+    parts_same = ap (partitions_of s.parts) is
 
     votes_are : reverse (t.ballots ++ b ∷ []) ≡ b ∷ h.votes
     votes_are = ap reverse ballots_more ∙ reverse-reverse (b ∷ h.votes)

@@ -9,7 +9,7 @@ use Rattle.server_core.specs.declared.messages.Msg.TheVariants.{Commit, Abort}
 use Rattle.server_core.specs.Coordinator.{decision, first_no, reads_of, bound_of}
 use Rattle.server_core.specs.Replies.{Reply, grants_for, votes_for, refused_for, closes_for, started_for, all_voted, all_closed}
 use Rattle.server_core.specs.declared.ballots.Ballot.{Ballot}
-use Rattle.server_core.specs.Setting.{Setting, take_first, parts_of, parts_for}
+use Rattle.server_core.specs.Setting.{Setting, take_first, partitions_of, participants_for}
 use Rattle.server_core.specs.Stamps.{stamp_from, stamped}
 use Rattle.server_core.specs.VotingFits.{AllFit}
 use Rattle.coord.specs.Left.{left_to_vote, left_to_close}
@@ -40,11 +40,11 @@ turns_of s p ms x turn = heard_of s p ms (record { txn = x; turn = turn })
 
 -- the partitions to which its end was said: those asked after a refusal, else the participants
 abbrev pub told_to : Setting → TxnId → Heard → List ℕ
-told_to s x h = if h.refused then parts_of s.parts (take_first (suc (length h.grants)) (s.accesses x)) else parts_for s x
+told_to s x h = if h.refused then partitions_of s.parts (take_first (suc (length h.grants)) (s.accesses x)) else participants_for s x
 
 -- all accesses are granted, and all participants have voted
 abbrev pub IsPolled : Setting → TxnId → Heard → Type 0
-IsPolled s x h = ((h.started ≡ true) × (h.refused ≡ false) × (length h.grants ≡ length (s.accesses x))) × (all_voted h.votes (parts_for s x) ≡ true)
+IsPolled s x h = ((h.started ≡ true) × (h.refused ≡ false) × (length h.grants ≡ length (s.accesses x))) × (all_voted h.votes (participants_for s x) ≡ true)
 
 abbrev pub HasDecided : Setting → Attempt → Heard → Msg → Type 0
 HasDecided s who h m = IsPolled s who.txn h × (decision who h.votes (first_no None h.votes) ≡ m)
@@ -75,8 +75,8 @@ pub record Polls (s : Setting) (x : TxnId) (h : Heard) (t : State) : Type 0 wher
   pub unrefused : h.refused ≡ false
   pub all : length h.grants ≡ length (s.accesses x)
   pub ballots : t.ballots ≡ reverse h.votes
-  pub left : t.left ≡ left_to_vote h.votes (parts_for s x)
-  pub more : all_voted h.votes (parts_for s x) ≡ false
+  pub left : t.left ≡ left_to_vote h.votes (participants_for s x)
+  pub more : all_voted h.votes (participants_for s x) ≡ false
   pub closes : h.closes ≡ []
 
 -- it ends at the partitions that were told

@@ -11,7 +11,7 @@ use Rattle.server_core.specs.declared.messages.Msg.TheVariants.{Start, Abort}
 use Rattle.server_core.specs.Coordinator.{ask_of, prepare_to, to_all, decision, first_no}
 use Rattle.server_core.specs.Replies.{Reply}
 use Rattle.server_core.specs.declared.ballots.Ballot.{Ballot}
-use Rattle.server_core.specs.Setting.{Setting, take_first, parts_of}
+use Rattle.server_core.specs.Setting.{Setting, take_first, partitions_of}
 use Rattle.coord.specs.Bounds.{bound_with}
 
 -- while it asks, the accesses granted so far: their number, the rows of those that read, and the greatest bound; then the
@@ -56,7 +56,7 @@ abbrev pub with_ballot : Ballot → List ℕ → State → State
 with_ballot b left t = record { turn = t.turn; stamp = t.stamp; accesses = t.accesses; granted = t.granted; rows = t.rows; bound = t.bound; ballots = t.ballots ++ b ∷ []; left = left }
 
 abbrev pub participants_of : Setting → State → List ℕ
-participants_of s t = parts_of s.parts t.accesses
+participants_of s t = partitions_of s.parts t.accesses
 
 -- it asks for its next access, or has all its participants vote
 abbrev pub going_on : Setting → State → Option Access → State
@@ -84,7 +84,7 @@ granted_mails s p who r t = mails_as s p who r t (slice_get t.accesses t.granted
 
 -- it is refused
 abbrev pub asked_of : Setting → State → List ℕ
-asked_of s t = parts_of s.parts (take_first (suc t.granted) t.accesses)
+asked_of s t = partitions_of s.parts (take_first (suc t.granted) t.accesses)
 
 abbrev pub refused : Setting → State → State
 refused s t = with_left (asked_of s t) t

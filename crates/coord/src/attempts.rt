@@ -16,7 +16,7 @@ use deneva_base::{Access, AccessList, Attempt, Bound, Key, Keyed, NoMemory, Numb
 use server_core::{Ballot, Outbox, Role};
 use std::alloc::Global;
 use std::mem;
-use txn_program::{effect_of, parts_of};
+use txn_program::{effect_of, partitions_of};
 
 /// The bound before the first grant.
 const NO_BOUND: Bound = Bound {
@@ -101,7 +101,7 @@ impl Attempting {
         ensures err { OnErr result (state_of self.new ≡ state_of self.old) }
         ensures same_mails { OnErr result (out.new.mails ≡ out.old.mails) }
     {
-        let participants = parts_of(role.alloc, role.config.parts, self.accesses.as_slice())?;
+        let participants = partitions_of(role.alloc, role.config.parts, self.accesses.as_slice())?;
         let program = role.program(who.txn);
         let effect = effect_of(role.alloc, &role.work.load, who.txn, program, &self.rows)?;
         say_prepares(role, who, self.bound, &effect, participants.as_slice(), out)?;
@@ -167,7 +167,7 @@ impl Attempting {
         ensures same_mails { OnErr result (out.new.mails ≡ out.old.mails) }
     {
         let asked = &self.accesses.as_slice()[..self.granted + 1];
-        let told = parts_of(role.alloc, role.config.parts, asked)?;
+        let told = partitions_of(role.alloc, role.config.parts, asked)?;
         say_to_all(role.part, who, Ending::Abort, told.as_slice(), out)?;
         self.left = told.into_vec();
         Ok(())
@@ -185,7 +185,7 @@ impl Attempting {
             Decision::Commit(n) => Ending::Commit(Number { n, id: who.txn }),
             Decision::Abort => Ending::Abort,
         };
-        let participants = parts_of(role.alloc, role.config.parts, self.accesses.as_slice())?;
+        let participants = partitions_of(role.alloc, role.config.parts, self.accesses.as_slice())?;
         say_to_all(role.part, who, ending, participants.as_slice(), out)?;
         self.left = participants.into_vec();
         Ok(())

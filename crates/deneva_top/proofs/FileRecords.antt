@@ -343,8 +343,8 @@ pub record Parts (work : Workload) : Type 0 where
   pub turns : length work.programs ≤ 10000
   pub programs : list_all (is_valid_program work.load) work.programs ≡ true
 
-pub parts_of : (work : Workload) → IsValid work → Parts work
-parts_of work valid =
+pub partitions_of : (work : Workload) → IsValid work → Parts work
+partitions_of work valid =
     let v = and_parts _ _ valid in
     let l = and_parts _ _ v.0 in
     let d = and_parts _ _ l.0 in
@@ -364,7 +364,7 @@ parts_of work valid =
 -- the records of a valid workload give it
 pub workload_back : (work : Workload) → IsValid work → AreNumbers work → workload_from (file_records work) ≡ Ok (in_order work)
 workload_back work valid short =
-    let p = parts_of work valid in
+    let p = partitions_of work valid in
     let keys = and_parts _ _ short in
     let out : Workload = record { load = ordered work.load; programs = work.programs } in
     let head = head_two work.load.fields in

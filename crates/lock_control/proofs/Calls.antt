@@ -27,7 +27,7 @@ use Rattle.lock_control.specs.Changes.{Adds, EndsOne}
 use Rattle.shelf.specs.Shelves.{read_in}
 use Rattle.lock_control.specs.Standing.{state_of, Tracks, Stands}
 use Rattle.lock_control.proofs.Asking.{grew, ask_granted, ask_waits}
-use Rattle.lock_control.specs.Locks.{floor_at}
+use Rattle.lock_control.specs.Locks.{bound_at}
 use Rattle.shelf.specs.Keeps.{Apart, KeepsRows}
 use Rattle.lock_control.proofs.Closing.{committed, aborted_tracks}
 use Rattle.shelf.proofs.Versions.{apart, reads_latest}
@@ -50,10 +50,10 @@ module _ (rule : Rows → Rule) (wakes : (loaded : Rows) (h : History) → Obeys
   votes = apart (rule loaded) rows stands.obeys
 
   -- the vote
-  pub vote_small : (who : Attempt) (bound : Bound) (writes appends : List Keyed) → MayPrepare h who bound writes appends → greatest_by (λ key. floor_at who (locks_at t.lines key)) (held t.shelf who).keys < 2 ^ 48
+  pub vote_small : (who : Attempt) (bound : Bound) (writes appends : List Keyed) → MayPrepare h who bound writes appends → greatest_by (λ key. bound_at who (locks_at t.lines key)) (held t.shelf who).keys < 2 ^ 48
   vote_small who bound writes appends may = rw (floor_is loaded h sounds traces (state_of t) stands.tracks who may.unended may.nowhere) (floor_small loaded (rule loaded) h who stands.obeys)
 
-  pub vote_is : (who : Attempt) (bound : Bound) (writes appends : List Keyed) → MayPrepare h who bound writes appends → Yes (1 + greatest_by (λ key. floor_at who (locks_at t.lines key)) (held t.shelf who).keys) (2 ^ 63) ≡ lock_vote h who
+  pub vote_is : (who : Attempt) (bound : Bound) (writes appends : List Keyed) → MayPrepare h who bound writes appends → Yes (1 + greatest_by (λ key. bound_at who (locks_at t.lines key)) (held t.shelf who).keys) (2 ^ 63) ≡ lock_vote h who
   vote_is who bound writes appends may = ap (λ n. Yes (1 + n) (2 ^ 63)) (floor_is loaded h sounds traces (state_of t) stands.tracks who may.unended may.nowhere)
 
   -- the row that is granted

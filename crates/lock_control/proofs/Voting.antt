@@ -19,8 +19,8 @@ use Rattle.protocol_rules.proofs.Sound.{Sound}
 use Rattle.protocol_rules.proofs.Traced.{Traced}
 use Rattle.protocol_rules.proofs.Locks.{conflict_decides, floor_top, met_true}
 use Rattle.lock_control.specs.declared.requests.Request.{Request}
-use Rattle.lock_control.specs.Requests.{mode_in, floor_in}
-use Rattle.lock_control.specs.Locks.{floor_at}
+use Rattle.lock_control.specs.Requests.{mode_in, bound_in}
+use Rattle.lock_control.specs.Locks.{bound_at}
 use Rattle.lock_control.specs.Standing.{State, owner_of, IsOwner, IsWaiter, IsTop, any_mode, Tracks}
 use Rattle.shelf.specs.Shelves.{held}
 use Rattle.lock_control.proofs.Puts.{mode_found}
@@ -71,40 +71,40 @@ module _ (loaded : Rows) (h : History) (sound : Sound loaded h) (traced : Traced
   apart : (g : Grant) (d : Decided) → g.who ≡ d.who → IsIn d (decided h) → g.who ≢ who
   apart g d e i s' = unended (subst (λ a. IsIn a (ended h)) (sym e ∙ s') (sound.ends d i))
 
-  below_floor : (key : Key) → floor_at who (s.locks key) ≤ greatest_met h who (decided h)
+  below_floor : (key : Key) → bound_at who (s.locks key) ≤ greatest_met h who (decided h)
   below_floor key = ⊎_elim (λ o. rw o.4 (go o.0 o.1 o.2 o.3 (writes o.0.mode) refl)) (λ n. rw n.0 (omega arith)) (own key)
     where
       top : (passes : Mode → Bool) (n : ℕ) → IsTop h key passes n → ((g : Grant) (d : Decided) → IsIn g (grants h) → IsIn d (decided h) → g.who ≡ d.who → g.key ≡ key → passes g.mode ≡ true → met h who d ≡ true) → n ≤ greatest_met h who (decided h)
       top passes n x f = ⊎_elim (λ z. omega (arith, z)) (λ z. omega (arith, z.7, floor_top h who (decided h) z.1 z.3 (f z.0 z.1 z.2 z.3 z.4 z.5 z.6))) x.from
 
-      go : (g : Grant) → IsIn g (grants h) → g.who ≡ who → g.key ≡ key → (b : Bool) → writes g.mode ≡ b → floor_in (Some g.mode) (s.locks key).accessed (s.locks key).written ≤ greatest_met h who (decided h)
+      go : (g : Grant) → IsIn g (grants h) → g.who ≡ who → g.key ≡ key → (b : Bool) → writes g.mode ≡ b → bound_in (Some g.mode) (s.locks key).accessed (s.locks key).written ≤ greatest_met h who (decided h)
       go g i e k true w = rw w (top any_mode (s.locks key).accessed (t.accessed key) (λ x d j l is k' p. met_true h who d g x i e j is (k' ∙ sym k, (λ same. apart x d is l (same ∙ e)), (λ r. not_read g.mode w r.1))))
       go g i e k false w = rw w (top writes (s.locks key).written (t.written key) (λ x d j l is k' p. met_true h who d g x i e j is (k' ∙ sym k, (λ same. apart x d is l (same ∙ e)), (λ r. not_read x.mode p r.0))))
 
-  reaches : (d : Decided) → IsIn d (decided h) → met h who d ≡ true → d.number.n ≤ greatest_by (λ key. floor_at who (s.locks key)) (held s.shelf who).keys
+  reaches : (d : Decided) → IsIn d (decided h) → met h who d ≡ true → d.number.n ≤ greatest_by (λ key. bound_at who (s.locks key)) (held s.shelf who).keys
   reaches d i m =
       let f = met_found h who d m in
       let mine : Grant = f.0 in
       let here : IsIn mine.key (held s.shelf who).keys = subst (λ w. IsIn mine.key (held s.shelf w).keys) f.4 (t.kept.noted mine f.2 (subst (λ w. IsUnended h w) (sym f.4) unended)) in
-      let top = top_by (λ key. floor_at who (s.locks key)) mine.key (held s.shelf who).keys here in
-      let at : d.number.n ≤ floor_at who (s.locks mine.key) = ⊎_elim
+      let top = top_by (λ key. bound_at who (s.locks key)) mine.key (held s.shelf who).keys here in
+      let at : d.number.n ≤ bound_at who (s.locks mine.key) = ⊎_elim
       (λ o. let one : o.0 ≡ mine = traced.one o.0 mine o.1 f.2 (o.2 ∙ sym f.4) o.3 in rw o.4 (go mine o.0 one f.1 f.3 f.5 f.6 (writes o.0.mode) refl))
       (λ n. absurd (n.1 mine f.2 f.4 refl))
       (own mine.key) in
       omega (arith, top, at)
     where
-      go : (mine g : Grant) → g ≡ mine → (other : Grant) → IsIn other (grants h) → other.who ≡ d.who → Clash other mine → (b : Bool) → writes g.mode ≡ b → d.number.n ≤ floor_in (Some g.mode) (s.locks mine.key).accessed (s.locks mine.key).written
+      go : (mine g : Grant) → g ≡ mine → (other : Grant) → IsIn other (grants h) → other.who ≡ d.who → Clash other mine → (b : Bool) → writes g.mode ≡ b → d.number.n ≤ bound_in (Some g.mode) (s.locks mine.key).accessed (s.locks mine.key).written
       go mine g one other j e c true w = rw w ((t.accessed mine.key).over other d j i e c.0 refl)
       go mine g one other j e c false w = rw w ((t.written mine.key).over other d j i e c.0 (other_writes other.mode mine.mode (ap (λ (z : Grant). writes z.mode) (sym one) ∙ w) c.2))
 
   -- the greatest over its keys is the greatest number of a committed conflict
-  pub floor_is : greatest_by (λ key. floor_at who (s.locks key)) (held s.shelf who).keys ≡ greatest_met h who (decided h)
+  pub floor_is : greatest_by (λ key. bound_at who (s.locks key)) (held s.shelf who).keys ≡ greatest_met h who (decided h)
   floor_is =
-      let a = greatest_le (λ key. floor_at who (s.locks key)) (greatest_met h who (decided h)) (held s.shelf who).keys (λ key i. below_floor key) in
-      let b = floor_le h who (greatest_by (λ key. floor_at who (s.locks key)) (held s.shelf who).keys) (decided h) (λ d i m. reaches d i m) in
+      let a = greatest_le (λ key. bound_at who (s.locks key)) (greatest_met h who (decided h)) (held s.shelf who).keys (λ key i. below_floor key) in
+      let b = floor_le h who (greatest_by (λ key. bound_at who (s.locks key)) (held s.shelf who).keys) (decided h) (λ d i m. reaches d i m) in
       omega (arith, a, b)
 
--- committed numbers are small, and so is a floor
+-- committed numbers are small, and so is a bound
 pub numbers_small : (loaded : Rows) (rule : Rule) (h : History) (d : Decided) → Obeys loaded rule h → IsIn d (decided h) → d.number.n < 2 ^ 48
 numbers_small loaded rule [] d o i = absurd i
 numbers_small loaded rule (Ask who stamp k mode answer ∷ h) d o i = numbers_small loaded rule h d o.2 i

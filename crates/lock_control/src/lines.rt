@@ -4,10 +4,10 @@ ghost use Rattle.deneva_base.specs.Lists.{greatest_by};
 ghost use Rattle.deneva_base.specs.declared.keys.Key.{Key};
 ghost use Rattle.protocol_rules.specs.WaitDie.{none};
 ghost use Rattle.lock_control.specs.Requests.{least_bar, is_stopped};
-ghost use Rattle.lock_control.specs.Locks.{no_locks, floor_at, with_request, ended_in, granted_in};
+ghost use Rattle.lock_control.specs.Locks.{no_locks, bound_at, with_request, ended_in, granted_in};
 ghost use Rattle.lock_control.specs.Tables.{locks_at, all_ended, all_granted, waiter_for, front_over, SetsLocks, SameLocks};
 
-use crate::requests::{Line, Request};
+use crate::requests::{KeyLocks, Request};
 use deneva_base::{Attempt, Key, Mode, NoMemory, Number};
 use key_table::Table;
 use std::alloc::Global;
@@ -24,7 +24,7 @@ pub(crate) struct Waiter {
 #[derive(Drop)]
 pub(crate) struct Lines {
     alloc: Global,
-    lines: Table<Key, Line>,
+    lines: Table<Key, KeyLocks>,
 }
 
 impl Lines {
@@ -58,11 +58,11 @@ impl Lines {
     }
 
     /// The greatest number under which an attempt committed whose access to the key conflicted with that of this one.
-    pub fn floor(&self, key: Key, who: Attempt) -> u64
-        ensures { result ≡ floor_at who (locks_at self.now key) }
+    pub fn bound(&self, key: Key, who: Attempt) -> u64
+        ensures { result ≡ bound_at who (locks_at self.now key) }
     {
         match self.lines.get(key) {
-            Some(line) => line.floor(who),
+            Some(line) => line.bound(who),
             None => 0,
         }
     }
@@ -86,14 +86,14 @@ impl Lines {
     }
 
     /// The greatest such number over these keys.
-    pub fn floor_over(&self, keys: &[Key], who: Attempt) -> u64
-        ensures { result ≡ greatest_by (λ key. floor_at who (locks_at self.now key)) keys.now }
+    pub fn bound_over(&self, keys: &[Key], who: Attempt) -> u64
+        ensures { result ≡ greatest_by (λ key. bound_at who (locks_at self.now key)) keys.now }
     {
-        let mut floor = 0;
+        let mut bound = 0;
         for key in keys {
-            floor = floor.max(self.floor(*key, who));
+            bound = bound.max(self.bound(*key, who));
         }
-        floor
+        bound
     }
 
     /// Takes out the attempt's requests for these keys.

@@ -2,7 +2,7 @@
 ghost use Rattle.std.specs.Prelude.{◌≡◌, [], None, Some, IfOk, OnOk, OnErr};
 ghost use Rattle.protocol_rules.specs.WaitDie.{none};
 ghost use Rattle.lock_control.specs.Requests.{conflicting, least_bar, is_stopped, is_barred, any_conflicts, front_of, mode_in, grants_to};
-ghost use Rattle.lock_control.specs.Locks.{no_locks, with_request, without, raised, ended_in, granted_in, floor_at};
+ghost use Rattle.lock_control.specs.Locks.{no_locks, with_request, without, raised, ended_in, granted_in, bound_at};
 
 use deneva_base::{Attempt, Mode, NoMemory, Number};
 use key_table::Empty;
@@ -52,13 +52,13 @@ fn any_conflicts(requests: &[Request], asked: &Request) -> bool
 /// The requests for a key, by falling stamp, and the greatest numbers under which an attempt with an access to the key
 /// committed: of all, and of those that wrote.
 #[derive(Drop)]
-pub(crate) struct Line {
+pub(crate) struct KeyLocks {
     requests: Vec<Request>,
     accessed: u64,
     written: u64,
 }
 
-impl Model for Line {
+impl Model for KeyLocks {
     ghost use Rattle.lock_control.specs.Seen.{Locks};
 
     ghost Value = { Locks };
@@ -66,11 +66,11 @@ impl Model for Line {
     ghost view = { λ l. record { requests = l.requests.items; accessed = l.accessed; written = l.written } };
 }
 
-impl Empty for Line {
+impl Empty for KeyLocks {
     ghost empty = { no_locks };
 
-    fn empty(alloc: Global) -> Line {
-        Line {
+    fn empty(alloc: Global) -> KeyLocks {
+        KeyLocks {
             requests: Vec::new(alloc),
             accessed: 0,
             written: 0,
@@ -78,7 +78,7 @@ impl Empty for Line {
     }
 }
 
-impl Line {
+impl KeyLocks {
     /// The owner of the least attempt that conflicts and whose stamp is below `below`.
     pub fn least_bar(&self, asked: &Request, below: u64) -> Option<Request>
         ensures { result ≡ least_bar asked.now below None self.now.requests }
@@ -181,8 +181,8 @@ impl Line {
     }
 
     /// The greatest number under which an attempt committed whose access conflicted with that of this one.
-    pub fn floor(&self, who: Attempt) -> u64
-        ensures { result ≡ floor_at who self.now }
+    pub fn bound(&self, who: Attempt) -> u64
+        ensures { result ≡ bound_at who self.now }
     {
         match self.mode_of(who) {
             Some(mode) if mode.is_writing() => self.accessed,

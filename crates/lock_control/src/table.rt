@@ -12,7 +12,7 @@ ghost use Rattle.protocol_rules.specs.Latest.{row_for};
 ghost use Rattle.protocol_rules.specs.WaitDie.{none};
 ghost use Rattle.lock_control.specs.Requests.{waiting};
 ghost use Rattle.shelf.specs.Shelves.{held, read_in};
-ghost use Rattle.lock_control.specs.Locks.{floor_at};
+ghost use Rattle.lock_control.specs.Locks.{bound_at};
 ghost use Rattle.lock_control.specs.Tables.{locks_at, front_over};
 ghost use Rattle.lock_control.specs.Changes.{IsNew, Adds, MayNote, MayVote, EndsOne, EndsAndWakes, Wakes, Votes, comes_after, version_after, wake_for};
 
@@ -79,10 +79,10 @@ impl Table {
     }
 
     /// The greatest number under which an attempt committed that had an access in conflict with one of this attempt.
-    pub fn floor(&self, who: Attempt) -> u64
-        ensures { result ≡ greatest_by (λ key. floor_at who (locks_at self.now.lines key)) (held self.now.shelf who).keys }
+    pub fn bound(&self, who: Attempt) -> u64
+        ensures { result ≡ greatest_by (λ key. bound_at who (locks_at self.now.lines key)) (held self.now.shelf who).keys }
     {
-        self.lines.floor_over(self.shelf.keys(who), who)
+        self.lines.bound_over(self.shelf.keys(who), who)
     }
 
     /// Votes, and takes the memory for the rows.
@@ -92,13 +92,13 @@ impl Table {
         writes: RowList,
         appends: RowList,
     ) -> Result<Vote, PrepareNoMemory>
-        requires small { greatest_by (λ key. floor_at who (locks_at self.old.lines key)) (held self.old.shelf who).keys < 2 ^ 48 }
-        ensures vote { IfOk result (λ v. v ≡ Yes (1 + greatest_by (λ key. floor_at who (locks_at self.old.lines key)) (held self.old.shelf who).keys) (2 ^ 63)) }
+        requires small { greatest_by (λ key. bound_at who (locks_at self.old.lines key)) (held self.old.shelf who).keys < 2 ^ 48 }
+        ensures vote { IfOk result (λ v. v ≡ Yes (1 + greatest_by (λ key. bound_at who (locks_at self.old.lines key)) (held self.old.shelf who).keys) (2 ^ 63)) }
         ensures ok { OnOk result (Votes who writes appends self.old self.new) }
         ensures err { OnErr result (MayVote self.old self.new) }
         ensures returned { IfErr result (λ e. (e.writes ≡ writes) × (e.appends ≡ appends)) }
     {
-        let lo = 1 + self.floor(who);
+        let lo = 1 + self.bound(who);
         self.shelf.promise(who, writes, appends)?;
         Ok(Vote::Yes { lo, hi: 1 << 63 })
     }

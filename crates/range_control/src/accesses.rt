@@ -89,12 +89,12 @@ impl Held {
 /// The unended accesses to a key, the oldest first, and one past the greatest number under which an attempt with an access
 /// to it committed.
 #[derive(Drop)]
-pub(crate) struct Line {
+pub(crate) struct KeyAccesses {
     held: Vec<Held>,
     past: u64,
 }
 
-impl Model for Line {
+impl Model for KeyAccesses {
     ghost use Rattle.range_control.specs.Seen.{Accesses};
 
     ghost Value = { Accesses };
@@ -102,18 +102,18 @@ impl Model for Line {
     ghost view = { λ l. record { held = l.held.items; past = l.past } };
 }
 
-impl Empty for Line {
+impl Empty for KeyAccesses {
     ghost empty = { no_accesses };
 
-    fn empty(alloc: Global) -> Line {
-        Line {
+    fn empty(alloc: Global) -> KeyAccesses {
+        KeyAccesses {
             held: Vec::new(alloc),
             past: 0,
         }
     }
 }
 
-impl Line {
+impl KeyAccesses {
     /// One past all numbers of committed attempts and all upper ends of prepared ones that accessed the key.
     pub fn past(&self) -> u64
         requires small { past_over self.now < 2 ^ 64 }

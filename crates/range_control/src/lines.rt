@@ -6,7 +6,7 @@ ghost use Rattle.range_control.specs.Ends.{first_by, upper_before, lower_before}
 ghost use Rattle.range_control.specs.Accesses.{no_accesses, past_over, prepared, ended_in, with_access};
 ghost use Rattle.range_control.specs.Tables.{accesses_at, low_at, lower_at, upper_at, prepared_at, all_changed, SetsAccesses, SameAccesses};
 
-use crate::accesses::{Held, Line, Window};
+use crate::accesses::{Held, KeyAccesses, Window};
 use crate::ends::{Upper, greatest_lower, least_upper};
 use deneva_base::{Attempt, Bound, Key, Keyed, NoMemory, Number};
 use key_table::Table;
@@ -14,7 +14,7 @@ use std::alloc::Global;
 
 #[derive(Drop)]
 pub(crate) struct Lines {
-    lines: Table<Key, Line>,
+    lines: Table<Key, KeyAccesses>,
 }
 
 /// Whether there is a row of the key.

@@ -36,8 +36,8 @@ abbrev pub attempt_text : Attempt → List ℕ
 attempt_text who = decimal who.txn.0 ++ codes "." ++ decimal who.turn
 
 -- the participants, joined by points
-abbrev pub parts_text : List ℕ → List ℕ
-parts_text parts = join_with_byte 46 (map decimal parts)
+abbrev pub participants_text : List ℕ → List ℕ
+participants_text parts = join_with_byte 46 (map decimal parts)
 
 abbrev pub cell_text : Cell → List ℕ
 cell_text (Num n) = signed_decimal n
@@ -54,8 +54,8 @@ reason_fields (Range key) = codes "range" ∷ key_text key ∷ []
 
 -- how a decided transaction ended: its number, its answer where it committed, its participants, and else the reason
 abbrev pub ending_record : Decided → Verdict → Record
-ending_record d Commit = codes "commit" ∷ decimal d.number.n ∷ decimal d.number.id.0 ∷ signed_decimal d.answer ∷ parts_text d.parts ∷ []
-ending_record d (Rollback reason) = codes "rollback" ∷ decimal d.number.n ∷ decimal d.number.id.0 ∷ parts_text d.parts ∷ reason_fields reason
+ending_record d Commit = codes "commit" ∷ decimal d.number.n ∷ decimal d.number.id.0 ∷ signed_decimal d.answer ∷ participants_text d.participants ∷ []
+ending_record d (Rollback reason) = codes "rollback" ∷ decimal d.number.n ∷ decimal d.number.id.0 ∷ participants_text d.participants ∷ reason_fields reason
 
 abbrev pub decided_record : Decided → Record
 decided_record d = ending_record d d.verdict

@@ -4,7 +4,7 @@ ghost use Rattle.std.specs.List.{flat_map};
 ghost use Rattle.report.specs.Records.{line_of, text_of};
 ghost use Rattle.report.specs.ReportText.{reason_fields, ending_record, decided_record, decided_records, field_texts};
 
-use crate::fields::{push_field, push_key, push_number_field, push_parts};
+use crate::fields::{push_field, push_key, push_number_field, push_participants};
 use crate::rows::push_rows;
 use deneva_base::{ByteList, NoMemory};
 use server_core::Decided;
@@ -36,13 +36,13 @@ fn push_ending(text: &mut ByteList, decided: &Decided) -> Result<(), NoMemory>
             push_number_field(text, decided.number.n)?;
             push_number_field(text, decided.number.id.0)?;
             push_number_field(text, decided.answer)?;
-            push_parts(text, decided.parts.as_slice())?;
+            push_participants(text, decided.participants.as_slice())?;
         }
         Verdict::Rollback(reason) => {
             text.extend(b"rollback")?;
             push_number_field(text, decided.number.n)?;
             push_number_field(text, decided.number.id.0)?;
-            push_parts(text, decided.parts.as_slice())?;
+            push_participants(text, decided.participants.as_slice())?;
             push_reason(text, reason)?;
         }
     }

@@ -2,7 +2,7 @@
 ghost use Rattle.std.specs.Prelude.{◌≡◌, ◌++◌, ◌∷◌, OnOk, IfOk, map, decimal};
 ghost use Rattle.std.specs.List.{flat_map};
 ghost use Rattle.report.specs.ReportText as spec;
-ghost use Rattle.report.specs.ReportText.{key_text, attempt_text, parts_text};
+ghost use Rattle.report.specs.ReportText.{key_text, attempt_text, participants_text};
 
 use deneva_base::{Attempt, ByteList, Key, NoMemory};
 use itoa::{Buffer, Integer};
@@ -83,8 +83,8 @@ fn push_number_parts(text: &mut ByteList, numbers: &[u8]) -> Result<(), NoMemory
 }
 
 /// Puts a comma and the participants at the end.
-pub fn push_parts(text: &mut ByteList, parts: &[u8]) -> Result<(), NoMemory>
-    ensures { OnOk result (text.new ≡ text.old ++ 44 ∷ parts_text parts.now) }
+pub fn push_participants(text: &mut ByteList, parts: &[u8]) -> Result<(), NoMemory>
+    ensures { OnOk result (text.new ≡ text.old ++ 44 ∷ participants_text parts.now) }
 {
     let Some((first, others)) = parts.split_first() else {
         return text.extend(b",");

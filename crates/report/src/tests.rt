@@ -84,7 +84,7 @@ fn decided_of(
         number: Number { n, id: TxnId(id) },
         verdict,
         answer,
-        parts: ByteList::from_bytes(alloc, parts)?,
+        participants: ByteList::from_bytes(alloc, parts)?,
         reads: RowList::new(alloc),
     })
 }

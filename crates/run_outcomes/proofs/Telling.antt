@@ -7,13 +7,13 @@ use Rattle.deneva_base.specs.Rows.{Row}
 use Rattle.deneva_base.specs.declared.keys.Access.{Access}
 use Rattle.deneva_base.specs.declared.numbers.Attempt.{Attempt}
 use Rattle.deneva_base.specs.declared.rows.Keyed.{Keyed}
-use Rattle.server_core.specs.Coordinator.{asked_parts, told, reads_of}
+use Rattle.server_core.specs.Coordinator.{asked_partitions, told, reads_of}
 use Rattle.server_core.specs.Ends as ends
 use Rattle.server_core.specs.Ends.{attempt, at_home, dones_for, undones_for}
 use Rattle.server_core.specs.Lines.{committed_n, decided_as, line_of}
 use Rattle.server_core.specs.Replies.{Reply, grants_for, refused_for, started_for, all_closed}
 use Rattle.server_core.specs.Runs.{heard}
-use Rattle.server_core.specs.Setting.{home, parts_for, take_first}
+use Rattle.server_core.specs.Setting.{home, participants_for, take_first}
 use Rattle.server_core.specs.declared.messages.Entry.{Entry}
 use Rattle.server_core.specs.declared.messages.Msg.{Msg}
 use Rattle.run_outcomes.specs.Naming.{is_about, entries_of}
@@ -67,13 +67,13 @@ module _ (r : Role) (H : List Entry) (t : Story) (k : Tells r H t) where
         ap (λ k. take k list) (min' ∙ min_comm (length list) (n + 1)) ∙ take_min (n + 1) list ∙ ap₂ take more (same ∙ k.accesses) ∙ sym (first_ones (suc (length (grants_for who (at_home (setting_of r) H who)))) ((setting_of r).accesses t.id))
 
     -- where its end was said
-    pub told_if_refused : refused_for who ms ≡ true → asked_parts (setting_of r) (at_home (setting_of r) H who) who ≡ told (setting_of r) (at_home (setting_of r) H who) who
+    pub told_if_refused : refused_for who ms ≡ true → asked_partitions (setting_of r) (at_home (setting_of r) H who) who ≡ told (setting_of r) (at_home (setting_of r) H who) who
     told_if_refused e =
-        ap (λ b. cond b (asked_parts (setting_of r) (at_home (setting_of r) H who) who) (parts_for (setting_of r) t.id)) (sym e ∙ refused_told)
+        ap (λ b. cond b (asked_partitions (setting_of r) (at_home (setting_of r) H who) who) (participants_for (setting_of r) t.id)) (sym e ∙ refused_told)
 
     pub told_if_voted : refused_for who ms ≡ false → t.participants ≡ told (setting_of r) (at_home (setting_of r) H who) who
     told_if_voted e =
-        k.participants ∙ ap (λ b. cond b (asked_parts (setting_of r) (at_home (setting_of r) H who) who) (parts_for (setting_of r) t.id)) (sym e ∙ refused_told)
+        k.participants ∙ ap (λ b. cond b (asked_partitions (setting_of r) (at_home (setting_of r) H who) who) (participants_for (setting_of r) t.id)) (sym e ∙ refused_told)
 
     pub undone_told : (qs : List ℕ) → qs ≡ told (setting_of r) (at_home (setting_of r) H who) who → (started_for who ms && all_closed (undones_for who ms) qs) ≡ ends.all_undone (setting_of r) H who
     undone_told qs e = ap₂ (λ a b. a && b) (of_messages (started_for who) (started_skips who)) (ap₂ all_closed (of_messages (undones_for who) (undones_skip who)) e)

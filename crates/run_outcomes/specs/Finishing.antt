@@ -11,7 +11,7 @@ use Rattle.server_core.specs.GlobalOrder.{index_of, number}
 use Rattle.server_core.specs.CalvinScheduler.{has_finished, rows_from, collected}
 use Rattle.server_core.specs.Lines.{decided_as}
 use Rattle.server_core.specs.Runs.{heard}
-use Rattle.server_core.specs.Setting.{Setting, home, homes, parts_for}
+use Rattle.server_core.specs.Setting.{Setting, home, homes, participants_for}
 use Rattle.server_core.specs.declared.messages.Entry.{Entry}
 use Rattle.server_core.specs.declared.messages.Msg.{Msg}
 use Rattle.server_core.specs.declared.outcomes.Decided.{Decided}
@@ -21,7 +21,7 @@ abbrev pub gathered : ℕ → List Msg → TxnId → List Access → List Keyed
 gathered parts ms x list = map (λ a. record { key = a.key; row = row_at (rows_from ms x (partition_of a.key parts)) a.key }) (reading list)
 
 abbrev pub is_finished : Setting → List Entry → TxnId → Bool
-is_finished s H x = list_all (has_finished (heard (home s x) H) x) (parts_for s x)
+is_finished s H x = list_all (has_finished (heard (home s x) H) x) (participants_for s x)
 
 abbrev pub finished_line : Setting → List Entry → TxnId → Decided
 finished_line s H x = decided_as s x (number s x).n (collected s (heard (home s x) H) x)

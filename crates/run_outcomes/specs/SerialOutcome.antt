@@ -9,7 +9,7 @@ use Rattle.server_core.specs.declared.outcomes.RunKind.TheVariants.{Serial}
 -- a transaction's number is its id, and its only participant is partition 0
 abbrev pub decided_serially : SerialTxn → Decided
 decided_serially t =
-    record { number = record { n = t.id.0; id = t.id }; verdict = t.verdict; answer = t.answer; parts = 0 ∷ []; reads = t.reads }
+    record { number = record { n = t.id.0; id = t.id }; verdict = t.verdict; answer = t.answer; participants = 0 ∷ []; reads = t.reads }
 
 -- there is one partition, and nothing is given up or aborted
 abbrev pub serial_outcome : SerialRun → Outcome

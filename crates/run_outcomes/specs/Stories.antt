@@ -4,7 +4,7 @@ use Rattle.deneva_base.specs.Lists.{IsIn}
 use Rattle.txn_program.specs.Serial.{all_ids, program_of}
 use Rattle.server_core.specs.Roles.{setting_of}
 use Rattle.server_core.specs.Runs.{heard}
-use Rattle.server_core.specs.Setting.{home, parts_for}
+use Rattle.server_core.specs.Setting.{home, participants_for}
 use Rattle.server_core.specs.declared.messages.Entry.{Entry}
 use Rattle.server_core.specs.declared.role.Role.{Role}
 use Rattle.run_outcomes.specs.Naming.{entries_of}
@@ -16,6 +16,6 @@ pub record Tells (r : Role) (H : List Entry) (t : Story) : Type 0 where
   pub program : t.program.now ≡ program_of r.work.now t.id
   pub home : t.home ≡ home (setting_of r) t.id
   pub accesses : t.accesses ≡ (setting_of r).accesses t.id
-  pub participants : t.participants ≡ parts_for (setting_of r) t.id
+  pub participants : t.participants ≡ participants_for (setting_of r) t.id
   pub entries : map (λ e. e.now) t.entries.items ≡ entries_of t.id H
   pub messages : map (λ m. m.now) t.messages.items ≡ heard t.home (entries_of t.id H)

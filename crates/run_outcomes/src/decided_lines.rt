@@ -67,7 +67,7 @@ impl Story<'_> {
             number: Number { n, id },
             verdict,
             answer,
-            parts: self.participants.copy(role.alloc)?,
+            participants: self.participants.copy(role.alloc)?,
             reads,
         })
     }

@@ -12,7 +12,7 @@ use crate::replies::{all_done, all_undone, grants_for, refused_for, started_for}
 use crate::stories::Story;
 use deneva_base::{Attempt, ByteList, NoMemory};
 use server_core::{Giveup, Role};
-use txn_program::parts_of;
+use txn_program::partitions_of;
 
 impl Story<'_> {
     pub(crate) fn attempt(&self, turn: u8) -> Attempt
@@ -45,12 +45,12 @@ impl Story<'_> {
 
     /// The partitions that the attempt of this turn has asked.
     fn asked(&self, role: Role<'_>, turn: u8) -> Result<ByteList, NoMemory>
-        ensures { IfOk result (λ list. (H : List messages.Entry) → Tells role.entry H self.now → let who = ends.attempt self.now.id turn in list ≡ coordinator.asked_parts (setting_of role.entry) (ends.at_home (setting_of role.entry) H who) who) }
+        ensures { IfOk result (λ list. (H : List messages.Entry) → Tells role.entry H self.now → let who = ends.attempt self.now.id turn in list ≡ coordinator.asked_partitions (setting_of role.entry) (ends.at_home (setting_of role.entry) H who) who) }
     {
         let granted = grants_for(role.alloc, self.attempt(turn), &self.messages)?.len();
         let accesses = self.accesses.as_slice();
         let asked = &accesses[..accesses.len().min(granted + 1)];
-        parts_of(role.alloc, role.config.parts, asked)
+        partitions_of(role.alloc, role.config.parts, asked)
     }
 
     /// The partitions to which the end of the attempt of this turn was said.

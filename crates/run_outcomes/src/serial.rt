@@ -24,7 +24,7 @@ fn decided_of(alloc: Global, txn: SerialTxn) -> Result<Decided, NoMemory>
         },
         verdict,
         answer,
-        parts: ByteList::from_bytes(alloc, &[0])?,
+        participants: ByteList::from_bytes(alloc, &[0])?,
         reads,
     })
 }

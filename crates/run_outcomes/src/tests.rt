@@ -182,7 +182,7 @@ fn a_commit_and_a_refusal(rt: HostRuntime) -> Result<(), Fail> {
     assert_eq!(rt; outcome.decided.len(), 1);
     let decided = outcome.decided.get(0);
     assert_eq!(rt; decided.number, Number { n: 5, id: TxnId(1) });
-    assert_eq!(rt; decided.parts.as_slice(), &[0][..]);
+    assert_eq!(rt; decided.participants.as_slice(), &[0][..]);
     assert!(rt; decided.reads == one_row(alloc, 1, b'a')?);
     let giveup = Giveup {
         id: TxnId(2),
@@ -297,11 +297,11 @@ fn a_global_order(rt: HostRuntime) -> Result<(), Fail> {
     assert_eq!(rt; outcome.decided.len(), 2);
     let first = outcome.decided.get(0);
     assert_eq!(rt; first.number, Number { n: 1, id: TxnId(3) });
-    assert_eq!(rt; first.parts.as_slice(), &[0][..]);
+    assert_eq!(rt; first.participants.as_slice(), &[0][..]);
     assert!(rt; first.reads == one_row(alloc, 2, b'b')?);
     let second = outcome.decided.get(1);
     assert_eq!(rt; second.number, Number { n: 9, id: TxnId(1) });
-    assert_eq!(rt; second.parts.as_slice(), &[0, 1][..]);
+    assert_eq!(rt; second.participants.as_slice(), &[0, 1][..]);
     let mut reads = one_row(alloc, 1, b'a')?;
     reads.push(keyed_of(alloc, 2, b'r')?)?;
     assert!(rt; second.reads == reads);

@@ -4,13 +4,13 @@ use Rattle.std.specs.List.{list_all, flat_map}
 use Rattle.deneva_base.specs.declared.numbers.TxnId.{TxnId}
 use Rattle.server_core.specs.declared.messages.Msg.{Msg}
 use Rattle.server_core.specs.Setting.{Setting}
-use Rattle.server_core.specs.CalvinScheduler.{takes_part, clash, has_batch, as_far, taken, is_finished, is_ready}
+use Rattle.server_core.specs.CalvinScheduler.{participates, clash, has_batch, as_far, taken, is_finished, is_ready}
 use Rattle.server_core.specs.GlobalOrder.{slots, batch, before}
 use Rattle.deneva_base.specs.Keys.{id_eq}
 
 -- taken, here and unfinished, in the order of number
 abbrev pub active : Setting → ℕ → List Msg → List TxnId
-active s p ms = filter (λ x. takes_part s x p && not (is_finished s ms x)) (taken s ms)
+active s p ms = filter (λ x. participates s x p && not (is_finished s ms x)) (taken s ms)
 
 -- none before it in the list conflicts with it at p
 abbrev pub is_first : Setting → ℕ → List TxnId → TxnId → Bool

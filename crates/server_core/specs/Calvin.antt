@@ -6,7 +6,7 @@ use Rattle.txn_program.specs.Transactions.{numbers_below}
 use Rattle.server_core.specs.Coordinator.{to_all}
 use Rattle.server_core.specs.GlobalOrder.{epochs, batch, order, number}
 use Rattle.server_core.specs.CalvinScheduler.{is_finished, is_ready, rows_at}
-use Rattle.server_core.specs.Setting.{Setting, home, parts_for}
+use Rattle.server_core.specs.Setting.{Setting, home, participants_for}
 use Rattle.server_core.specs.declared.messages.Mail.{Mail}
 use Rattle.server_core.specs.declared.messages.Msg.{Msg}
 use Rattle.server_core.specs.declared.messages.Msg.TheVariants.{Tick, Batch, Rows, Finished}
@@ -17,7 +17,7 @@ became_ready s p m ms = filter (λ x. is_ready s p (m ∷ ms) x && not (is_ready
 
 -- a ready transaction's rows at p, to each of its participants
 abbrev pub rows_mails : Setting → ℕ → List Msg → TxnId → List Mail
-rows_mails s p ms x = to_all p (Rows x p (rows_at s p ms x)) (parts_for s x)
+rows_mails s p ms x = to_all p (Rows x p (rows_at s p ms x)) (participants_for s x)
 
 abbrev pub ready_mails : Setting → ℕ → Msg → List Msg → List Mail
 ready_mails s p m ms = flat_map (rows_mails s p (m ∷ ms)) (became_ready s p m ms)

@@ -9,7 +9,7 @@ use Rattle.server_core.specs.Calvin.{says, finished_mail}
 use Rattle.server_core.specs.Counts.{all_said}
 use Rattle.server_core.specs.GlobalOrder.{number}
 use Rattle.server_core.specs.Runs.{heard}
-use Rattle.server_core.specs.Setting.{Setting, home, parts_for}
+use Rattle.server_core.specs.Setting.{Setting, home, participants_for}
 use Rattle.server_core.specs.declared.messages.Entry.{Entry}
 use Rattle.server_core.specs.declared.messages.Mail.{Mail}
 use Rattle.server_core.specs.declared.messages.Msg.{Msg}
@@ -39,8 +39,8 @@ pub record IsFinishedAt (s : Setting) (H : List Entry) (x : TxnId) (p : ℕ) : T
 
 -- each participant finished it and no other node did, and its home alone handled that
 pub record FinishedOnce (s : Setting) (H : List Entry) (x : TxnId) : Type 0 where
-  pub each : (p : ℕ) → IsIn p (parts_for s x) → IsFinishedAt s H x p
-  pub nowhere : (p : ℕ) → (IsIn p (parts_for s x) → ⊥) → (finishes s H x p ≡ []) × (finished_numbers s H x p ≡ [])
+  pub each : (p : ℕ) → IsIn p (participants_for s x) → IsFinishedAt s H x p
+  pub nowhere : (p : ℕ) → (IsIn p (participants_for s x) → ⊥) → (finishes s H x p ≡ []) × (finished_numbers s H x p ≡ [])
   pub home_alone : (q : ℕ) → q ≢ home s x → filter (is_finished_of x) (heard q H) ≡ []
 
 -- or no node did

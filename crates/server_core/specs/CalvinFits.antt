@@ -8,7 +8,7 @@ use Rattle.server_core.specs.Calvin.{says}
 use Rattle.server_core.specs.Counts.{all_said}
 use Rattle.server_core.specs.GlobalOrder.{epochs, batch, number}
 use Rattle.server_core.specs.CalvinScheduler.{reading_at, has_batch, has_rows, has_finished, ticks}
-use Rattle.server_core.specs.Setting.{Setting, home, parts_for}
+use Rattle.server_core.specs.Setting.{Setting, home, participants_for}
 use Rattle.server_core.specs.declared.messages.Msg.{Msg}
 use Rattle.server_core.specs.declared.messages.Msg.TheVariants.{Tick, Batch, Rows, Finished}
 
@@ -23,9 +23,9 @@ abbrev pub Suits : Setting → ℕ → ℕ → Msg → List Msg → Type 0
 Suits s p f (Tick e) ms = (f ≡ p) × (e ≡ ticks ms) × (e < epochs s)
 Suits s p f (Batch e q ids) ms = (q ≡ f) × (has_batch ms (record { epoch = e; seq = q }) ≡ false) × (ids ≡ batch s (record { epoch = e; seq = q })) × (e < epochs s) × (q < s.parts)
 Suits s p f (Rows x part rows) ms =
-    (part ≡ f) × IsIn x s.ids × IsIn f (parts_for s x) × IsIn p (parts_for s x) × (has_rows ms x part ≡ false) × RowsFor s x f rows × (f ≡ p → IsIn (record { from = p; to = p; msg = Rows x part rows }) (all_said (says s) p ms))
+    (part ≡ f) × IsIn x s.ids × IsIn f (participants_for s x) × IsIn p (participants_for s x) × (has_rows ms x part ≡ false) × RowsFor s x f rows × (f ≡ p → IsIn (record { from = p; to = p; msg = Rows x part rows }) (all_said (says s) p ms))
 Suits s p f (Finished x part n) ms =
-    (p ≡ home s x) × IsIn x s.ids × (part ≡ f) × IsIn f (parts_for s x) × (has_finished ms x part ≡ false) × (n ≡ number s x)
+    (p ≡ home s x) × IsIn x s.ids × (part ≡ f) × IsIn f (participants_for s x) × (has_finished ms x part ≡ false) × (n ≡ number s x)
 Suits s p f m ms = ⊥
 
 -- each message fitted the list before it

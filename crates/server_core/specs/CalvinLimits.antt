@@ -4,7 +4,7 @@ use Rattle.deneva_base.specs.Keys.{id_eq}
 use Rattle.deneva_base.specs.declared.numbers.TxnId.{TxnId}
 use Rattle.server_core.specs.GlobalOrder.{epochs}
 use Rattle.server_core.specs.Limits.{sum_of}
-use Rattle.server_core.specs.Setting.{Setting, parts_for}
+use Rattle.server_core.specs.Setting.{Setting, participants_for}
 use Rattle.server_core.specs.declared.messages.Msg.{Msg}
 use Rattle.server_core.specs.declared.messages.Msg.TheVariants.{Tick, Batch, Rows, Finished}
 
@@ -20,4 +20,4 @@ is_about x m = false
 
 -- no run has more entries: those of Tick and Batch, and those of Rows and Finished
 abbrev pub most_ordered : Setting → ℕ
-most_ordered s = epochs s * (s.parts + s.parts * s.parts) + sum_of (λ x. let m = length (parts_for s x) in m * m + m) s.ids
+most_ordered s = epochs s * (s.parts + s.parts * s.parts) + sum_of (λ x. let m = length (participants_for s x) in m * m + m) s.ids

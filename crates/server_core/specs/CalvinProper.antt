@@ -11,7 +11,7 @@ use Rattle.txn_program.specs.Transactions.{reading}
 use Rattle.server_core.specs.CalvinFits.{all_fine}
 use Rattle.server_core.specs.Effects.{written, appended}
 use Rattle.server_core.specs.Proper.{ids_in}
-use Rattle.server_core.specs.Setting.{Setting, parts_for}
+use Rattle.server_core.specs.Setting.{Setting, participants_for}
 
 -- what a workload and its transactions are
 pub record Valid (s : Setting) : Type 0 where
@@ -21,7 +21,7 @@ pub record Valid (s : Setting) : Type 0 where
   -- a row is written where the transaction has an access that writes
   pub writes : (x : TxnId) (rows : List Keyed) (w : Keyed) → IsIn x s.ids → length rows ≡ length (reading (s.accesses x)) → IsIn w (written (s.effect x rows)) → (a : Access) × IsIn a (s.accesses x) × (a.key ≡ w.key) × (writes a.mode ≡ true)
   -- a row is appended at a participant, and its key is in no access
-  pub appends : (x : TxnId) (rows : List Keyed) (w : Keyed) → IsIn x s.ids → length rows ≡ length (reading (s.accesses x)) → IsIn w (appended (s.effect x rows)) → IsIn (partition_of w.key s.parts) (parts_for s x) × ((y : TxnId) (a : Access) → IsIn y s.ids → IsIn a (s.accesses y) → a.key ≡ w.key → ⊥)
+  pub appends : (x : TxnId) (rows : List Keyed) (w : Keyed) → IsIn x s.ids → length rows ≡ length (reading (s.accesses x)) → IsIn w (appended (s.effect x rows)) → IsIn (partition_of w.key s.parts) (participants_for s x) × ((y : TxnId) (a : Access) → IsIn y s.ids → IsIn a (s.accesses y) → a.key ≡ w.key → ⊥)
 
 -- rows are well formed: those loaded for the accesses, and those that an effect of well formed rows writes
 pub record Forms (s : Setting) : Type 0 where

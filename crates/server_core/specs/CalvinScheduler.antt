@@ -12,13 +12,13 @@ use Rattle.txn_program.specs.Transactions.{reading}
 use Rattle.server_core.specs.Coordinator.{at_part}
 use Rattle.server_core.specs.Effects.{leaves}
 use Rattle.server_core.specs.GlobalOrder.{Slot, slots, batch, order, before, has_id}
-use Rattle.server_core.specs.Setting.{Setting, parts_for}
+use Rattle.server_core.specs.Setting.{Setting, participants_for}
 use Rattle.server_core.specs.declared.messages.Msg.{Msg}
 use Rattle.server_core.specs.declared.messages.Msg.TheVariants as msg
 
 -- x takes part at p
-abbrev pub takes_part : Setting → TxnId → ℕ → Bool
-takes_part s x p = list_any (λ a. partition_of a.key s.parts == p) (s.accesses x)
+abbrev pub participates : Setting → TxnId → ℕ → Bool
+participates s x p = list_any (λ a. partition_of a.key s.parts == p) (s.accesses x)
 
 -- two accesses to one key at p, not both Read
 abbrev pub collide : ℕ → ℕ → Access → Access → Bool
@@ -71,7 +71,7 @@ taken s ms = flat_map (batch s) (as_far (has_batch ms) (slots s))
 
 -- the Rows of all participants are there
 abbrev pub is_finished : Setting → List Msg → TxnId → Bool
-is_finished s ms x = list_all (has_rows ms x) (parts_for s x)
+is_finished s ms x = list_all (has_rows ms x) (participants_for s x)
 
 -- no transaction before it in the order is unfinished and conflicts with it at p
 abbrev pub unblocked : Setting → ℕ → List Msg → TxnId → Bool
@@ -79,7 +79,7 @@ unblocked s p ms x = list_all (λ y. is_finished s ms y || not (clash s p x y)) 
 
 -- it was taken, takes part at p, and is not blocked
 abbrev pub is_ready : Setting → ℕ → List Msg → TxnId → Bool
-is_ready s p ms x = has_id x (taken s ms) && (takes_part s x p && unblocked s p ms x)
+is_ready s p ms x = has_id x (taken s ms) && (participates s x p && unblocked s p ms x)
 
 -- the rows of its accesses that read, as they came
 abbrev pub collected : Setting → List Msg → TxnId → List Keyed

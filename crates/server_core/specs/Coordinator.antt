@@ -15,19 +15,19 @@ use Rattle.server_core.specs.declared.messages.Mail.{Mail}
 use Rattle.deneva_base.specs.declared.keys.Access.{Access}
 use Rattle.txn_program.specs.declared.effects.Effect.{Effect}
 use Rattle.server_core.specs.Effects.{written, appended}
-use Rattle.server_core.specs.Setting.{Setting, homes, parts_of, take_first}
+use Rattle.server_core.specs.Setting.{Setting, homes, partitions_of, take_first}
 use Rattle.deneva_base.specs.Partitions.{partition_of}
 use Rattle.server_core.specs.Replies.{Reply, grants_for, votes_for, refused_for, closes_for, all_voted, all_closed}
 use Rattle.server_core.specs.declared.ballots.Ballot.{Ballot}
 use Rattle.server_core.specs.Stamps.{stamped, stamp_from}
 
 -- the partitions that the attempt has asked
-abbrev pub asked_parts : Setting → List Msg → Attempt → List ℕ
-asked_parts s ms who = parts_of s.parts (take_first (suc (length (grants_for who ms))) (s.accesses who.txn))
+abbrev pub asked_partitions : Setting → List Msg → Attempt → List ℕ
+asked_partitions s ms who = partitions_of s.parts (take_first (suc (length (grants_for who ms))) (s.accesses who.txn))
 
 -- the partitions to which its end was said: those asked after a refusal, else the participants
 abbrev pub told : Setting → List Msg → Attempt → List ℕ
-told s ms who = if refused_for who ms then asked_parts s ms who else parts_of s.parts (s.accesses who.txn)
+told s ms who = if refused_for who ms then asked_partitions s ms who else partitions_of s.parts (s.accesses who.txn)
 
 -- each transaction that is over made room for one more
 abbrev pub overs : Setting → List Msg → ℕ
@@ -73,7 +73,7 @@ effect_of s x rs = s.effect x (reads_of (s.accesses x) rs)
 abbrev pub next_ask : Setting → ℕ → Attempt → ℕ → List Reply → Option Access → List Mail
 next_ask s p who stamp rs (Some a) = ask_of s p who stamp a ∷ []
 next_ask s p who stamp rs None =
-    map (prepare_to s p who (bound_of rs) (effect_of s who.txn rs)) (parts_of s.parts (s.accesses who.txn))
+    map (prepare_to s p who (bound_of rs) (effect_of s who.txn rs)) (partitions_of s.parts (s.accesses who.txn))
 
 -- the cause of the least partition that said No
 abbrev pub no_in : Option (ℕ × Cause) → ℕ → Vote → Option (ℕ × Cause)
@@ -108,14 +108,14 @@ to_all p m qs = map (λ q. record { from = p; to = q; msg = m }) qs
 
 -- after a vote: nothing until every participant has voted
 abbrev pub polled : Setting → ℕ → Attempt → List Ballot → List Mail
-polled s p who bs = if all_voted bs (parts_of s.parts (s.accesses who.txn)) then to_all p (decision who bs (first_no None bs)) (parts_of s.parts (s.accesses who.txn)) else []
+polled s p who bs = if all_voted bs (partitions_of s.parts (s.accesses who.txn)) then to_all p (decision who bs (first_no None bs)) (partitions_of s.parts (s.accesses who.txn)) else []
 
 -- the coordinator, on the last message with those before it
 abbrev pub coordinator : Setting → ℕ → Msg → List Msg → List Mail
 coordinator s p (Start who) ms = next_ask s p who (stamp_from s p (Start who ∷ ms) (stamped s who)) [] (slice_get (s.accesses who.txn) 0)
 coordinator s p (Granted who key row version bound) ms =
     next_ask s p who (stamp_from s p ms (stamped s who)) (reverse (record { row = row; bound = bound; key = key } ∷ grants_for who ms)) (slice_get (s.accesses who.txn) (suc (length (grants_for who ms))))
-coordinator s p (Refused who key cause) ms = to_all p (Abort who) (asked_parts s ms who)
+coordinator s p (Refused who key cause) ms = to_all p (Abort who) (asked_partitions s ms who)
 coordinator s p (Yes who part lo hi) ms = polled s p who (record { part = part; vote = VotesYes lo hi } ∷ votes_for who ms)
 coordinator s p (No who part cause) ms = polled s p who (record { part = part; vote = VotesNo cause } ∷ votes_for who ms)
 coordinator s p (Done who part) ms =

@@ -6,7 +6,7 @@ use Rattle.txn_program.specs.Serial.{serial}
 use Rattle.txn_program.specs.declared.programs.Workload.{Workload}
 use Rattle.txn_program.specs.declared.serial.SerialTxn.{SerialTxn}
 use Rattle.server_core.specs.GlobalOrder.{order, number}
-use Rattle.server_core.specs.Setting.{Setting, setting, parts_for}
+use Rattle.server_core.specs.Setting.{Setting, setting, participants_for}
 use Rattle.server_core.specs.declared.outcomes.Decided.{Decided}
 use Rattle.server_core.specs.declared.outcomes.Outcome.{Outcome}
 use Rattle.server_core.specs.declared.outcomes.RunKind.TheVariants.{Under}
@@ -17,7 +17,7 @@ in_order parts = record { protocol = Calvin; parts = parts; attempts = 1; limit 
 
 -- what a transaction did at its turn, with its number in the global order
 abbrev pub ordered_line : Setting → SerialTxn → Decided
-ordered_line s t = record { number = number s t.id; verdict = t.verdict; answer = t.answer; parts = parts_for s t.id; reads = t.reads }
+ordered_line s t = record { number = number s t.id; verdict = t.verdict; answer = t.answer; participants = participants_for s t.id; reads = t.reads }
 
 -- the outcome over so many partitions of the serial execution in the global order: each transaction is decided, with its
 -- number in that order

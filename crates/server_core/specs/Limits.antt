@@ -6,7 +6,7 @@ use Rattle.deneva_base.specs.Keys.{attempt_eq}
 use Rattle.server_core.specs.declared.messages.Msg.{Msg}
 use Rattle.server_core.specs.declared.messages.Msg.TheVariants.{Start, Ask, Granted, Refused, Prepare, Yes, No, Commit, Abort, Done, Undone, Finished}
 use Rattle.server_core.specs.declared.messages.Entry.{Entry}
-use Rattle.server_core.specs.Setting.{Setting, parts_of}
+use Rattle.server_core.specs.Setting.{Setting, partitions_of}
 use Rattle.protocol_rules.specs.Growth.{CauseUnder, Grows}
 
 -- the messages of an attempt
@@ -30,7 +30,7 @@ count_entries t (e ∷ H) = (if t e then 1 else 0) + count_entries t H
 
 -- an attempt's entries are at most so many
 abbrev pub most_of : Setting → TxnId → ℕ
-most_of s x = 1 + 2 * length (s.accesses x) + 4 * length (parts_of s.parts (s.accesses x))
+most_of s x = 1 + 2 * length (s.accesses x) + 4 * length (partitions_of s.parts (s.accesses x))
 
 abbrev pub sum_of : {A : Type 0} → (A → ℕ) → List A → ℕ
 sum_of f [] = 0

@@ -13,7 +13,7 @@ use Rattle.server_core.specs.GlobalOrder.{order, number}
 use Rattle.server_core.specs.CalvinScheduler.{has_finished, collected}
 use Rattle.server_core.specs.Replies.{Reply, grants_for}
 use Rattle.server_core.specs.Runs.{heard}
-use Rattle.server_core.specs.Setting.{Setting, home, parts_for}
+use Rattle.server_core.specs.Setting.{Setting, home, participants_for}
 use Rattle.server_core.specs.declared.messages.Entry.{Entry}
 use Rattle.server_core.specs.declared.messages.Msg.TheVariants.{Commit}
 use Rattle.server_core.specs.declared.messages.Msg.{Msg}
@@ -26,7 +26,7 @@ decided_as s x n read = record {
   number = record { n = n; id = x };
   verdict = (s.effect x read).verdict;
   answer = (s.effect x read).answer;
-  parts = parts_for s x;
+  participants = participants_for s x;
   reads = read;
 }
 
@@ -76,4 +76,4 @@ giveups_of s H = flat_map (λ x. if all_undone s H (attempt x s.attempts) then r
 abbrev pub ordered_lines : Setting → List Entry → List Decided
 ordered_lines s H =
     map (λ x. decided_as s x (number s x).n (collected s (heard (home s x) H) x))
-    (filter (λ x. list_all (has_finished (heard (home s x) H) x) (parts_for s x)) (order s))
+    (filter (λ x. list_all (has_finished (heard (home s x) H) x) (participants_for s x)) (order s))

@@ -12,7 +12,7 @@ use Rattle.protocol_rules.specs.Conditions.{Distinct}
 use Rattle.server_core.specs.declared.messages.Msg.{Msg}
 use Rattle.server_core.specs.declared.messages.Msg.TheVariants.{Start, Ask, Granted, Refused, Prepare, Yes, No, Commit, Abort, Done, Undone, Tick, Batch, Rows, Finished}
 use Rattle.server_core.specs.declared.messages.Mail.{Mail}
-use Rattle.server_core.specs.Setting.{Setting, home, parts_of, participants}
+use Rattle.server_core.specs.Setting.{Setting, home, partitions_of, participants}
 use Rattle.deneva_base.specs.declared.keys.Access.{Access}
 use Rattle.server_core.specs.Replies.{Reply}
 use Rattle.deneva_base.specs.Partitions.{partition_of}
@@ -69,7 +69,7 @@ pub record Valid (s : Setting) : Type 0 where
   pub fine : (key : Key) (row : Row) → s.loaded key ≡ Some row → s.fine key row ≡ true
   pub writes : (x : TxnId) (rows : List Keyed) (w : Keyed) → IsIn w (written (s.effect x rows)) → (mode : Mode) × IsWriting mode × IsIn (record { key = w.key; mode = mode }) (s.accesses x)
   pub distinct : (x : TxnId) (rows : List Keyed) → Distinct (written (s.effect x rows))
-  pub appends : (x : TxnId) (rows : List Keyed) (w : Keyed) → IsIn w (appended (s.effect x rows)) → (5 ≤ w.key.table) × (w.key.table ≤ 8) × IsIn (partition_of w.key s.parts) (parts_of s.parts (s.accesses x))
+  pub appends : (x : TxnId) (rows : List Keyed) (w : Keyed) → IsIn w (appended (s.effect x rows)) → (5 ≤ w.key.table) × (w.key.table ≤ 8) × IsIn (partition_of w.key s.parts) (partitions_of s.parts (s.accesses x))
   pub distinct_appends : (x : TxnId) (rows : List Keyed) → Distinct (appended (s.effect x rows))
   pub effects : (x : TxnId) (rs : List Reply) (w : Keyed) → length rs ≡ length (s.accesses x) → FineReplies s (s.accesses x) rs → IsIn w (written (effect_of s x rs)) → s.fine w.key w.row ≡ true
   pub fine_appends : (x : TxnId) (rs : List Reply) (w : Keyed) → length rs ≡ length (s.accesses x) → FineReplies s (s.accesses x) rs → IsIn w (appended (effect_of s x rs)) → s.fine w.key w.row ≡ true

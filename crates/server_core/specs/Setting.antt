@@ -14,7 +14,7 @@ use Rattle.deneva_base.specs.Rows.{Row, Rows, row_of}
 use Rattle.protocol_rules.specs.Rules.{Rule}
 use Rattle.txn_program.specs.Serial.{program_of, all_ids}
 use Rattle.txn_program.specs.Transactions.{accesses, effect}
-pub use Rattle.txn_program.specs.Transactions.{parts_of}
+pub use Rattle.txn_program.specs.Transactions.{partitions_of}
 use Rattle.txn_program.specs.WellFormed.{is_well_formed}
 use Rattle.txn_program.specs.declared.effects.Effect.{Effect}
 use Rattle.txn_program.specs.declared.programs.Workload.{Workload}
@@ -84,11 +84,11 @@ abbrev pub homes : Setting → ℕ → List TxnId
 homes s p = filter (λ x. home s x == p) s.ids
 
 -- the partitions at which a transaction takes part
-abbrev pub parts_for : Setting → TxnId → List ℕ
-parts_for s x = parts_of s.parts (s.accesses x)
+abbrev pub participants_for : Setting → TxnId → List ℕ
+participants_for s x = partitions_of s.parts (s.accesses x)
 
 abbrev pub participants : Setting → Attempt → List ℕ
-participants s who = parts_for s who.txn
+participants s who = participants_for s who.txn
 
 -- the first n of a list, and what follows them
 abbrev pub take_first : {A : Type 0} → ℕ → List A → List A

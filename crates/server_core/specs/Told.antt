@@ -28,5 +28,5 @@ numbers_at s H x p = flat_map (commit_number x) (heard p H) ++ finished_numbers 
 -- each decided transaction committed once at each of its participants, with the number of its line, and nowhere else; a
 -- given-up one committed nowhere
 pub record IsTold (s : Setting) (H : List Entry) (o : Outcome) : Type 0 where
-  pub decided : (l : Decided) (p : ℕ) → IsIn l o.decided → numbers_at s H l.number.id p ≡ (if list_any (λ q. q == p) l.parts then l.number ∷ [] else [])
+  pub decided : (l : Decided) (p : ℕ) → IsIn l o.decided → numbers_at s H l.number.id p ≡ (if list_any (λ q. q == p) l.participants then l.number ∷ [] else [])
   pub given_up : (g : Giveup) (p : ℕ) → IsIn g o.giveups → numbers_at s H g.id p ≡ []

@@ -8,7 +8,7 @@ use Rattle.protocol_rules.specs.History.{Yea, yeas}
 use Rattle.server_core.specs.declared.messages.Msg.{Msg}
 use Rattle.server_core.specs.declared.messages.Msg.TheVariants.{Commit}
 use Rattle.server_core.specs.declared.messages.Entry.{Entry}
-use Rattle.server_core.specs.Setting.{Setting, parts_of, participants}
+use Rattle.server_core.specs.Setting.{Setting, partitions_of, participants}
 use Rattle.server_core.specs.Participant.{calls}
 use Rattle.server_core.specs.Runs.{heard}
 use Rattle.server_core.specs.Counts.{count_msgs}
@@ -32,10 +32,10 @@ pub record Committed (s : Setting) (H : List Entry) (x : TxnId) : Type 0 where
   pub attempt : Attempt
   pub number : Number
   pub own : attempt.txn ≡ x
-  pub once : (q : ℕ) → IsIn q (parts_of s.parts (s.accesses x)) → count_msgs (commits x) (heard q H) ≡ 1
-  pub here : (q : ℕ) → IsIn q (parts_of s.parts (s.accesses x)) → IsIn (Commit attempt number) (heard q H)
-  pub window : (q : ℕ) → IsIn q (parts_of s.parts (s.accesses x)) → (y : Yea) × IsIn y (yeas (calls s q (heard q H))) × (y.who ≡ attempt) × (y.lo ≤ number.n) × (number.n ≤ y.hi)
-  pub nowhere : (q : ℕ) → (IsIn q (parts_of s.parts (s.accesses x)) → ⊥) → count_msgs (commits x) (heard q H) ≡ 0
+  pub once : (q : ℕ) → IsIn q (partitions_of s.parts (s.accesses x)) → count_msgs (commits x) (heard q H) ≡ 1
+  pub here : (q : ℕ) → IsIn q (partitions_of s.parts (s.accesses x)) → IsIn (Commit attempt number) (heard q H)
+  pub window : (q : ℕ) → IsIn q (partitions_of s.parts (s.accesses x)) → (y : Yea) × IsIn y (yeas (calls s q (heard q H))) × (y.who ≡ attempt) × (y.lo ≤ number.n) × (number.n ≤ y.hi)
+  pub nowhere : (q : ℕ) → (IsIn q (partitions_of s.parts (s.accesses x)) → ⊥) → count_msgs (commits x) (heard q H) ≡ 0
 
 -- or none at all
 abbrev pub IsWhole : Setting → List Entry → TxnId → Type 0

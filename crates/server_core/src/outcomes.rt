@@ -21,19 +21,19 @@ pub struct Decided {
     pub number: Number,
     pub verdict: Verdict,
     pub answer: i64,
-    pub parts: ByteList,
+    pub participants: ByteList,
     pub reads: RowList,
 }
 
 impl Copied for Decided {
     fn copied(&self, alloc: Global) -> Result<Decided, NoMemory> {
-        let parts = self.parts.copy(alloc)?;
+        let participants = self.participants.copy(alloc)?;
         let reads = self.reads.copy(alloc)?;
         Ok(Decided {
             number: self.number,
             verdict: self.verdict,
             answer: self.answer,
-            parts,
+            participants,
             reads,
         })
     }

@@ -140,7 +140,7 @@ fn lines_of_an_outcome_are_copied(rt: HostRuntime) -> Result<(), Fail> {
         number: NUMBER,
         verdict: Verdict::Commit,
         answer: -2,
-        parts: ByteList::from_bytes(rt.alloc(), &[0, 1])?,
+        participants: ByteList::from_bytes(rt.alloc(), &[0, 1])?,
         reads: rows(rt.alloc())?,
     };
     assert_eq!(rt; decided.copied(rt.alloc())?, decided);

@@ -4,12 +4,12 @@ ghost use Rattle.deneva_base.specs.Lists.{IsIn};
 ghost use Rattle.txn_program.specs.Serial.{all_ids, program_of};
 ghost use Rattle.txn_program.specs.Transactions.{as_read, effect_at};
 ghost use Rattle.server_core.specs.Roles.{setting_of, accesses_at};
-ghost use Rattle.server_core.specs.Setting.{home, homes, parts_for};
+ghost use Rattle.server_core.specs.Setting.{home, homes, participants_for};
 
 use crate::role::Role;
 use deneva_base::{AccessList, ByteList, NoMemory, TxnId, partition_of};
 use txn_program::{
-    Effect, Partition, Program, ReadRow, accesses_of, effect_within, home, parts_of,
+    Effect, Partition, Program, ReadRow, accesses_of, effect_within, home, partitions_of,
 };
 
 impl<'w> Role<'w> {
@@ -69,9 +69,9 @@ impl<'w> Role<'w> {
     /// The partitions at which the transaction takes part, in rising order.
     pub fn participants(&self, id: TxnId) -> Result<ByteList, NoMemory>
         requires { IsIn id (all_ids self.now.work.now) }
-        ensures { IfOk result (λ list. list ≡ parts_for (setting_of self.now) id) }
+        ensures { IfOk result (λ list. list ≡ participants_for (setting_of self.now) id) }
     {
-        parts_of(self.alloc, self.config.parts, self.accesses(id)?.as_slice())
+        partitions_of(self.alloc, self.config.parts, self.accesses(id)?.as_slice())
     }
 
     /// What the transaction makes at this node of the rows of its accesses that read, which stand in their order.

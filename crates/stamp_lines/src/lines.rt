@@ -4,7 +4,7 @@ ghost use Rattle.deneva_base.specs.declared.keys.Key.{Key};
 ghost use Rattle.stamp_lines.specs.Requests.{is_stopped, first_writer, put_request, without, granted};
 ghost use Rattle.stamp_lines.specs.Tables.{line_at, all_ended, all_granted, SetsLine, SameLines};
 
-use crate::requests::{Line, Request};
+use crate::requests::{KeyAccesses, Request};
 use deneva_base::{Attempt, Key, Mode, NoMemory};
 use key_table::Table;
 use std::alloc::Global;
@@ -21,7 +21,7 @@ pub struct Waiter {
 /// The requests for each key, by rising stamp.
 #[derive(Drop)]
 pub(crate) struct Lines {
-    lines: Table<Key, Line>,
+    lines: Table<Key, KeyAccesses>,
 }
 
 impl Lines {

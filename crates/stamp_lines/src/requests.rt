@@ -44,11 +44,11 @@ impl Request {
 
 /// The requests for a key, by rising stamp.
 #[derive(Drop)]
-pub(crate) struct Line {
+pub(crate) struct KeyAccesses {
     requests: Vec<Request>,
 }
 
-impl Model for Line {
+impl Model for KeyAccesses {
     ghost use Rattle.std.specs.Prelude.{List};
     ghost use Rattle.stamp_lines.specs.declared.requests.Request.{Request};
 
@@ -57,17 +57,17 @@ impl Model for Line {
     ghost view = { λ l. l.requests.items };
 }
 
-impl Empty for Line {
+impl Empty for KeyAccesses {
     ghost empty = { [] };
 
-    fn empty(alloc: Global) -> Line {
-        Line {
+    fn empty(alloc: Global) -> KeyAccesses {
+        KeyAccesses {
             requests: Vec::new(alloc),
         }
     }
 }
 
-impl Line {
+impl KeyAccesses {
     pub fn requests(&self) -> &[Request]
         ensures { result.now ≡ self.now }
     {

@@ -96,8 +96,8 @@ numbers_below zero = []
 numbers_below (suc n) = numbers_below n ++ n ∷ []
 
 -- the partitions of these accesses, in rising order
-abbrev pub parts_of : ℕ → List Access → List ℕ
-parts_of parts list = filter (λ p. list_any (λ a. partition_of a.key parts == p) list) (numbers_below parts)
+abbrev pub partitions_of : ℕ → List Access → List ℕ
+partitions_of parts list = filter (λ p. list_any (λ a. partition_of a.key parts == p) list) (numbers_below parts)
 
 abbrev pub participants : Load → Program → ℕ → List ℕ
-participants load program parts = parts_of parts (accesses load program)
+participants load program parts = partitions_of parts (accesses load program)

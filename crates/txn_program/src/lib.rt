@@ -20,7 +20,7 @@ pub use laws::{
     accesses_are_lawful, effects_are_lawful, ids_are_lawful, loads_are_lawful,
     participants_are_lawful,
 };
-pub use partitions::{Partition, parts_of};
+pub use partitions::{Partition, partitions_of};
 pub use programs::{Load, Program, WorkKind, Workload, YcsbAct, YcsbPut, YcsbStep};
 pub use read_rows::{ReadRow, row_among};
 pub use serial::{SerialRun, SerialTxn};

@@ -39,9 +39,9 @@ fn marks_of(alloc: Global, parts: u8, accesses: &[Access]) -> Result<Vec<bool>, 
 }
 
 /// The partitions of these accesses, in rising order.
-pub fn parts_of(alloc: Global, parts: u8, accesses: &[Access]) -> Result<ByteList, NoMemory>
+pub fn partitions_of(alloc: Global, parts: u8, accesses: &[Access]) -> Result<ByteList, NoMemory>
     requires { 1 ≤ parts }
-    ensures { IfOk result (λ list. list ≡ transactions.parts_of parts accesses.now) }
+    ensures { IfOk result (λ list. list ≡ transactions.partitions_of parts accesses.now) }
 {
     let marks = marks_of(alloc, parts, accesses)?;
     let mut found = ByteList::new(alloc);

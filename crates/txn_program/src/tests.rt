@@ -161,7 +161,7 @@ fn participants_rise(rt: HostRuntime) -> Result<(), Fail> {
     let load = load_of(alloc, 1, &[3, 5, 7], 1, b"a")?;
     let program = Program::Ycsb(steps_of(alloc, &[7, 5, 3])?);
     let accesses = accesses_of(alloc, &load, &program)?;
-    let parts = parts_of(alloc, 4, accesses.as_slice())?;
+    let parts = partitions_of(alloc, 4, accesses.as_slice())?;
     assert_eq!(rt; parts.as_slice(), [1, 3].as_slice());
     Ok(())
 }

@@ -9,7 +9,7 @@ use Rattle.deneva_base.proofs.Membership.{any_tells, attempt_decides}
 use Rattle.server_core.specs.declared.messages.Msg.{Msg}
 use Rattle.server_core.specs.declared.messages.Msg.TheVariants.{Start, Commit}
 use Rattle.server_core.specs.declared.messages.Entry.{Entry}
-use Rattle.server_core.specs.Setting.{Setting, parts_of}
+use Rattle.server_core.specs.Setting.{Setting, partitions_of}
 use Rattle.server_core.specs.Proper.{Valid}
 use Rattle.server_core.specs.Runs.{heard}
 use Rattle.server_core.specs.Counts.{count_msgs}
@@ -66,8 +66,8 @@ whole s v H g x = ⊎_elim (λ e. inl (some e.0 e.1 (is_commit_of x e.0.msg e.2)
         let n : Number = c.1 in
         let at = atomic s v H [] g in
         let here : IsIn (Commit a n) (heard e.node H) = subst (λ m. IsIn m (heard e.node H)) c.2 (entry_heard H e i) in
-        let all : (q : ℕ) → IsIn q (parts_of s.parts (s.accesses x)) → IsIn (Commit a n) (heard q H)
-        = λ q j. everywhere s v H [] g refl a n e.node q here (subst (λ (y : TxnId). IsIn q (parts_of s.parts (s.accesses y))) (sym c.3) j) in
+        let all : (q : ℕ) → IsIn q (partitions_of s.parts (s.accesses x)) → IsIn (Commit a n) (heard q H)
+        = λ q j. everywhere s v H [] g refl a n e.node q here (subst (λ (y : TxnId). IsIn q (partitions_of s.parts (s.accesses y))) (sym c.3) j) in
         record {
           attempt = a;
           number = n;
@@ -75,11 +75,11 @@ whole s v H g x = ⊎_elim (λ e. inl (some e.0 e.1 (is_commit_of x e.0.msg e.2)
           once = λ q j. exact (count_msgs (commits x) (heard q H)) (msg_counted (commits x) (heard q H) (Commit a n) (all q j) (same a.txn.0 x.0 (ap (λ (y : TxnId). y.0) c.3)))
               (omega (arith, fewer (commits x) (is_end a) (heard q H) (λ m k t. ended a n e.node q c.3 here m k t), end_ledger s v H [] g a q, ends_once s v H [] g a q));
           here = all;
-          window = λ q j. at.window a n e.node q here (subst (λ (y : TxnId). IsIn q (parts_of s.parts (s.accesses y))) (sym c.3) j);
+          window = λ q j. at.window a n e.node q here (subst (λ (y : TxnId). IsIn q (partitions_of s.parts (s.accesses y))) (sym c.3) j);
           nowhere = λ q out. none_of (count_msgs (commits x) (heard q H)) (λ h.
               let m = find_msg (commits x) (heard q H) h in
               let d = is_commit_of x m.0 m.2 in
-              out (subst (λ (y : TxnId). IsIn q (parts_of s.parts (s.accesses y))) d.3 (at.place d.0 d.1 q (subst (λ z. IsIn z (heard q H)) d.2 m.1))));
+              out (subst (λ (y : TxnId). IsIn q (partitions_of s.parts (s.accesses y))) d.3 (at.place d.0 d.1 q (subst (λ z. IsIn z (heard q H)) d.2 m.1))));
         }
       where
         same : (p q : ℕ) → p ≡ q → eqb p q ≡ true

@@ -15,7 +15,7 @@ use Rattle.server_core.specs.Counts.{count}
 use Rattle.server_core.proofs.counts.Conserved.{handled}
 use Rattle.server_core.proofs.counts.Local.{sent_to, heard_counts}
 use Rattle.server_core.proofs.counts.Prepares.{occurs}
-use Rattle.server_core.specs.Setting.{Setting, home, parts_for}
+use Rattle.server_core.specs.Setting.{Setting, home, participants_for}
 use Rattle.server_core.specs.GlobalOrder.{Slot, slots, slots_of, epochs}
 use Rattle.deneva_base.specs.Keys.{id_eq}
 use Rattle.server_core.specs.CalvinScheduler.{ticks, is_ready, is_finished}
@@ -90,7 +90,7 @@ module _ (s : Setting) (v : Valid s) (H : List Entry) (flight : List Mail) (run 
   rows_few : (p q : ℕ) (x : TxnId) → count (sent_to p (is_rows x q)) (handled H) ≤ 1
   rows_few p q x = omega (arith, heard_counts (is_rows x q) p H, rows_ledger s v H flight run x q p, few (is_ready s q (heard q H) x) (occurs_once s x p))
     where
-      few : (b : Bool) → occurs p (parts_for s x) ≤ 1 → cond b (occurs p (parts_for s x)) 0 ≤ 1
+      few : (b : Bool) → occurs p (participants_for s x) ≤ 1 → cond b (occurs p (participants_for s x)) 0 ≤ 1
       few true h = h
       few false h = omega arith
 
@@ -206,43 +206,43 @@ module _ (s : Setting) (v : Valid s) (H : List Entry) (flight : List Mail) (run 
     any_done (Finished y q n) = id_eq y x
     any_done m = false
 
-    rows_most : count (λ m. any_rows m.msg) (handled H) ≤ length (parts_for s x) * (length (parts_for s x) * 1)
+    rows_most : count (λ m. any_rows m.msg) (handled H) ≤ length (participants_for s x) * (length (participants_for s x) * 1)
     rows_most =
-        le_trans (union (λ m. any_rows m.msg) (λ p m. any_rows m.msg && eqb m.to p) (parts_for s x) (handled H) (λ y i e. at y e y.msg refl (right y i)))
-        (sum_most (λ p. count (λ m. any_rows m.msg && eqb m.to p) (handled H)) (length (parts_for s x) * 1) (parts_for s x) (λ p i.
-        le_trans (union (λ m. any_rows m.msg && eqb m.to p) (λ q. sent_to p (is_rows x q)) (parts_for s x) (handled H) (λ y j f. which p y f y.msg refl (right y j)))
-        (sum_most (λ q. count (sent_to p (is_rows x q)) (handled H)) 1 (parts_for s x) (λ q j. rows_few p q x))))
+        le_trans (union (λ m. any_rows m.msg) (λ p m. any_rows m.msg && eqb m.to p) (participants_for s x) (handled H) (λ y i e. at y e y.msg refl (right y i)))
+        (sum_most (λ p. count (λ m. any_rows m.msg && eqb m.to p) (handled H)) (length (participants_for s x) * 1) (participants_for s x) (λ p i.
+        le_trans (union (λ m. any_rows m.msg && eqb m.to p) (λ q. sent_to p (is_rows x q)) (participants_for s x) (handled H) (λ y j f. which p y f y.msg refl (right y j)))
+        (sum_most (λ q. count (sent_to p (is_rows x q)) (handled H)) 1 (participants_for s x) (λ q j. rows_few p q x))))
       where
-        at : (y : Mail) → any_rows y.msg ≡ true → (m : Msg) → y.msg ≡ m → Right s H y → (p : ℕ) × IsIn p (parts_for s x) × ((any_rows y.msg && eqb y.to p) ≡ true)
+        at : (y : Mail) → any_rows y.msg ≡ true → (m : Msg) → y.msg ≡ m → Right s H y → (p : ℕ) × IsIn p (participants_for s x) × ((any_rows y.msg && eqb y.to p) ≡ true)
         at y e (Rows z q rows) is r' =
             let r : RightMsg s H y.from y.to (Rows z q rows) = subst (λ w. RightMsg s H y.from y.to w) is r' in
             let e' : id_eq z x ≡ true = subst (λ w. any_rows w ≡ true) is e in
-            (y.to, subst (λ w. IsIn y.to (parts_for s w)) (id_is z x e') r.3, rw is (rw (e', same_number y.to) refl))
+            (y.to, subst (λ w. IsIn y.to (participants_for s w)) (id_is z x e') r.3, rw is (rw (e', same_number y.to) refl))
         at y e m is r = absurd (true≢false (sym e ∙ ap any_rows is))
 
-        which : (p : ℕ) (y : Mail) → (any_rows y.msg && eqb y.to p) ≡ true → (m : Msg) → y.msg ≡ m → Right s H y → (q : ℕ) × IsIn q (parts_for s x) × (sent_to p (is_rows x q) y ≡ true)
+        which : (p : ℕ) (y : Mail) → (any_rows y.msg && eqb y.to p) ≡ true → (m : Msg) → y.msg ≡ m → Right s H y → (q : ℕ) × IsIn q (participants_for s x) × (sent_to p (is_rows x q) y ≡ true)
         which p y f (Rows z q rows) is r' =
             let r : RightMsg s H y.from y.to (Rows z q rows) = subst (λ w. RightMsg s H y.from y.to w) is r' in
             let f' : (id_eq z x && eqb y.to p) ≡ true = subst (λ w. (any_rows w && eqb y.to p) ≡ true) is f in
             let b = and_parts (id_eq z x) (eqb y.to p) f' in
-            (q, subst (λ w. IsIn q (parts_for s w)) (id_is z x b.0) (subst (λ w. IsIn w (parts_for s z)) (sym r.0) r.2), rw is (rw (b.0, same_number q, b.1) refl))
+            (q, subst (λ w. IsIn q (participants_for s w)) (id_is z x b.0) (subst (λ w. IsIn w (participants_for s z)) (sym r.0) r.2), rw is (rw (b.0, same_number q, b.1) refl))
         which p y f m is r = absurd (true≢false (sym f ∙ ap (λ z. any_rows z && eqb y.to p) is))
 
-    done_most : count (λ m. any_done m.msg) (handled H) ≤ length (parts_for s x) * 1
+    done_most : count (λ m. any_done m.msg) (handled H) ≤ length (participants_for s x) * 1
     done_most =
-        le_trans (union (λ m. any_done m.msg) (λ q. sent_to (home s x) (is_done x q)) (parts_for s x) (handled H) (λ y i e. which y e y.msg refl (right y i)))
-        (sum_most (λ q. count (sent_to (home s x) (is_done x q)) (handled H)) 1 (parts_for s x) (λ q j. done_few (home s x) q x ix))
+        le_trans (union (λ m. any_done m.msg) (λ q. sent_to (home s x) (is_done x q)) (participants_for s x) (handled H) (λ y i e. which y e y.msg refl (right y i)))
+        (sum_most (λ q. count (sent_to (home s x) (is_done x q)) (handled H)) 1 (participants_for s x) (λ q j. done_few (home s x) q x ix))
       where
-        which : (y : Mail) → any_done y.msg ≡ true → (m : Msg) → y.msg ≡ m → Right s H y → (q : ℕ) × IsIn q (parts_for s x) × (sent_to (home s x) (is_done x q) y ≡ true)
+        which : (y : Mail) → any_done y.msg ≡ true → (m : Msg) → y.msg ≡ m → Right s H y → (q : ℕ) × IsIn q (participants_for s x) × (sent_to (home s x) (is_done x q) y ≡ true)
         which y e (Finished z q n) is r' =
             let r : RightMsg s H y.from y.to (Finished z q n) = subst (λ w. RightMsg s H y.from y.to w) is r' in
             let e' : id_eq z x ≡ true = subst (λ w. any_done w ≡ true) is e in
             let to : y.to ≡ home s x = r.1 ∙ ap (home s) (id_is z x e') in
-            (q, subst (λ w. IsIn q (parts_for s w)) (id_is z x e') (subst (λ w. IsIn w (parts_for s z)) (sym r.0) r.3), rw (is, to) (rw (e', same_number q, same_number (home s x)) refl))
+            (q, subst (λ w. IsIn q (participants_for s w)) (id_is z x e') (subst (λ w. IsIn w (participants_for s z)) (sym r.0) r.3), rw (is, to) (rw (e', same_number q, same_number (home s x)) refl))
         which y e m is r = absurd (true≢false (sym e ∙ ap any_done is))
 
-    pub each_most : count_entries (λ e. is_about x e.msg) H ≤ most (length (parts_for s x))
-    each_most = omega (arith, counted (is_about x) H, both (handled H), rows_most, done_most, spread (length (parts_for s x)))
+    pub each_most : count_entries (λ e. is_about x e.msg) H ≤ most (length (participants_for s x))
+    each_most = omega (arith, counted (is_about x) H, both (handled H), rows_most, done_most, spread (length (participants_for s x)))
       where
         both : (xs : List Mail) → count (λ m. is_about x m.msg) xs ≡ count (λ m. any_rows m.msg) xs + count (λ m. any_done m.msg) xs
         both [] = omega arith
@@ -263,7 +263,7 @@ module _ (s : Setting) (v : Valid s) (H : List Entry) (flight : List Mail) (run 
   handled_length [] = refl
   handled_length (e ∷ H) = omega (arith, handled_length H)
 
-  most_sum : (xs : List TxnId) → ((x : TxnId) → IsIn x xs → IsIn x s.ids) → sum_of (λ x. count (λ m. is_about x m.msg) (handled H)) xs ≤ sum_of (λ x. most (length (parts_for s x))) xs
+  most_sum : (xs : List TxnId) → ((x : TxnId) → IsIn x xs → IsIn x s.ids) → sum_of (λ x. count (λ m. is_about x m.msg) (handled H)) xs ≤ sum_of (λ x. most (length (participants_for s x))) xs
   most_sum [] h = omega arith
   most_sum (x ∷ xs) h = omega (arith, most_sum xs (λ y i. h y (inr i)), each_most x (h x (inl refl)), counted (is_about x) H)
 

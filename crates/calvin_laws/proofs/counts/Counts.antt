@@ -14,8 +14,8 @@ use Rattle.server_core.proofs.counts.Conserved.{count-append}
 use Rattle.server_core.proofs.counts.Local.{sent_to, count_msgs}
 use Rattle.server_core.proofs.counts.Prepares.{occurs}
 use Rattle.server_core.proofs.counts.Ends.{count_all, off_if}
-use Rattle.server_core.specs.Setting.{Setting, home, parts_for}
-use Rattle.server_core.specs.CalvinScheduler.{takes_part, has_batch, has_rows, has_finished, as_far, is_finished, is_ready, unblocked, rows_at}
+use Rattle.server_core.specs.Setting.{Setting, home, participants_for}
+use Rattle.server_core.specs.CalvinScheduler.{participates, has_batch, has_rows, has_finished, as_far, is_finished, is_ready, unblocked, rows_at}
 use Rattle.server_core.specs.GlobalOrder.{Slot, slots, epochs, batch, order, number, has_id}
 use Rattle.deneva_base.specs.Keys.{id_eq}
 use Rattle.server_core.specs.Calvin.{says, became_ready, rows_mails, ready_mails, finished_mail, finished_mails, tick_mail, batch_mails}
@@ -89,8 +89,8 @@ pub occurs_filter : (q : ℕ) (p : ℕ → Bool) (xs : List ℕ) → occurs q (f
 occurs_filter q p [] = omega arith
 occurs_filter q p (x ∷ xs) = grind (arith, occurs_filter q p xs)
 
-pub occurs_once : (s : Setting) (x : TxnId) (q : ℕ) → occurs q (parts_for s x) ≤ 1
-occurs_once s x q = grind (arith, occurs_filter q (takes_part s x) (numbers_below s.parts), occurs_below q s.parts)
+pub occurs_once : (s : Setting) (x : TxnId) (q : ℕ) → occurs q (participants_for s x) ≤ 1
+occurs_once s x q = grind (arith, occurs_filter q (participates s x) (numbers_below s.parts), occurs_below q s.parts)
 
 pub in_occurs : (q : ℕ) (xs : List ℕ) → IsIn q xs → 1 ≤ occurs q xs
 in_occurs q [] i = absurd i
@@ -103,15 +103,15 @@ module _ (s : Setting) where
 
   -- Rows of x
 
-  one_rows : (p q : ℕ) (x y : TxnId) (ms : List Msg) → count (sent_to q (is_rows x p)) (rows_mails s p ms y) ≡ cond (id_eq y x) (occurs q (parts_for s x)) 0
+  one_rows : (p q : ℕ) (x y : TxnId) (ms : List Msg) → count (sent_to q (is_rows x p)) (rows_mails s p ms y) ≡ cond (id_eq y x) (occurs q (participants_for s x)) 0
   one_rows p q x y ms =
-      count_all (is_rows x p) p q (Rows y p (rows_at s p ms y)) (parts_for s y)
+      count_all (is_rows x p) p q (Rows y p (rows_at s p ms y)) (participants_for s y)
       ∙ ⊎_elim
-      (λ (t : (id_eq y x ≡ true) × (y ≡ x)). rw (t.0, same_number p) (ap (λ z. occurs q (parts_for s z)) t.1))
+      (λ (t : (id_eq y x ≡ true) × (y ≡ x)). rw (t.0, same_number p) (ap (λ z. occurs q (participants_for s z)) t.1))
       (λ (t : (id_eq y x ≡ false) × (y ≢ x)). rw t.0 refl)
       (id_tells y x)
 
-  rows_among : (p q : ℕ) (x : TxnId) (ms : List Msg) (xs : List TxnId) → ids_in x xs ≤ 1 → count (sent_to q (is_rows x p)) (flat_map (rows_mails s p ms) xs) ≡ cond (has_id x xs) (occurs q (parts_for s x)) 0
+  rows_among : (p q : ℕ) (x : TxnId) (ms : List Msg) (xs : List TxnId) → ids_in x xs ≤ 1 → count (sent_to q (is_rows x p)) (flat_map (rows_mails s p ms) xs) ≡ cond (has_id x xs) (occurs q (participants_for s x)) 0
   rows_among p q x ms [] h = refl
   rows_among p q x ms (y ∷ xs) h =
       let a = count-append (sent_to q (is_rows x p)) (rows_mails s p ms y) (flat_map (rows_mails s p ms) xs) in
@@ -156,10 +156,10 @@ module _ (s : Setting) where
       go true e false = refl
       go false e c = refl
 
-  ready_rows : (p q : ℕ) (x : TxnId) (m : Msg) (ms : List Msg) → ids_in x (order s) ≤ 1 → count (sent_to q (is_rows x p)) (ready_mails s p m ms) ≡ cond (is_ready s p (m ∷ ms) x && not (is_ready s p ms x)) (occurs q (parts_for s x)) 0
+  ready_rows : (p q : ℕ) (x : TxnId) (m : Msg) (ms : List Msg) → ids_in x (order s) ≤ 1 → count (sent_to q (is_rows x p)) (ready_mails s p m ms) ≡ cond (is_ready s p (m ∷ ms) x && not (is_ready s p ms x)) (occurs q (participants_for s x)) 0
   ready_rows p q x m ms h =
       rows_among p q x (m ∷ ms) (became_ready s p m ms) (omega (arith, h, ids_filtered x (λ z. is_ready s p (m ∷ ms) z && not (is_ready s p ms z)) (order s)))
-      ∙ ap (λ b. cond b (occurs q (parts_for s x)) 0) (fresh_of p x m ms)
+      ∙ ap (λ b. cond b (occurs q (participants_for s x)) 0) (fresh_of p x m ms)
 
   both_off : (b : Bool) (n : ℕ) → cond (b && not b) n 0 ≡ 0
   both_off true n = refl
@@ -176,12 +176,12 @@ module _ (s : Setting) where
   tick_rest t q p e true h = rw h (omega arith)
   tick_rest t q p e false h = refl
 
-  rows_step : (p q : ℕ) (x : TxnId) (m : Msg) (ms : List Msg) → ids_in x (order s) ≤ 1 → count (sent_to q (is_rows x p)) (says s p (m ∷ ms)) ≡ cond (is_ready s p (m ∷ ms) x && not (is_ready s p ms x)) (occurs q (parts_for s x)) 0
+  rows_step : (p q : ℕ) (x : TxnId) (m : Msg) (ms : List Msg) → ids_in x (order s) ≤ 1 → count (sent_to q (is_rows x p)) (says s p (m ∷ ms)) ≡ cond (is_ready s p (m ∷ ms) x && not (is_ready s p ms x)) (occurs q (participants_for s x)) 0
   rows_step p q x (Tick e) ms h =
       let a = count-append (sent_to q (is_rows x p)) (batch_mails s p e) (cond (ltb (suc e) (epochs s)) (tick_mail p (suc e) ∷ []) []) in
       let b = count_all (is_rows x p) p q (Batch e p (batch s (record { epoch = e; seq = p }))) (numbers_below s.parts) in
       let c = tick_rest (is_rows x p) q p (suc e) (ltb (suc e) (epochs s)) refl in
-      omega (arith, a, b, c, both_off (is_ready s p ms x) (occurs q (parts_for s x)))
+      omega (arith, a, b, c, both_off (is_ready s p ms x) (occurs q (participants_for s x)))
   rows_step p q x (Batch e r ids) ms h = ready_rows p q x (Batch e r ids) ms h
   rows_step p q x (Rows y r rows) ms h =
       omega (
@@ -190,11 +190,11 @@ module _ (s : Setting) where
         finished_rows p q x y (Rows y r rows) ms,
         ready_rows p q x (Rows y r rows) ms h,
       )
-  rows_step p q x (Finished y r n) ms h = sym (both_off (is_ready s p ms x) (occurs q (parts_for s x)))
-  rows_step p q x m ms h = sym (both_off (is_ready s p ms x) (occurs q (parts_for s x)))
+  rows_step p q x (Finished y r n) ms h = sym (both_off (is_ready s p ms x) (occurs q (participants_for s x)))
+  rows_step p q x m ms h = sym (both_off (is_ready s p ms x) (occurs q (participants_for s x)))
 
   none_ready : (p : ℕ) (x : TxnId) → is_ready s p [] x ≡ false
-  none_ready p x = ap (λ (l : List Slot). has_id x (flat_map (batch s) l) && (takes_part s x p && unblocked s p [] x)) (none (slots s))
+  none_ready p x = ap (λ (l : List Slot). has_id x (flat_map (batch s) l) && (participates s x p && unblocked s p [] x)) (none (slots s))
     where
       none : (ls : List Slot) → as_far (has_batch []) ls ≡ []
       none [] = refl
@@ -207,12 +207,12 @@ module _ (s : Setting) where
   growing false false n k h e = omega (arith, e)
 
   -- the Rows of each transaction are said once to each participant, when it has become ready
-  pub rows_said : (p q : ℕ) (x : TxnId) (ms : List Msg) → ids_in x (order s) ≤ 1 → count (sent_to q (is_rows x p)) (all_said (says s) p ms) ≡ cond (is_ready s p ms x) (occurs q (parts_for s x)) 0
+  pub rows_said : (p q : ℕ) (x : TxnId) (ms : List Msg) → ids_in x (order s) ≤ 1 → count (sent_to q (is_rows x p)) (all_said (says s) p ms) ≡ cond (is_ready s p ms x) (occurs q (participants_for s x)) 0
   rows_said p q x [] h = let e = none_ready p x in rw e refl
   rows_said p q x (m ∷ ms) h =
       more_said p q (is_rows x p) m ms
       ∙ ap (λ n. n + count (sent_to q (is_rows x p)) (all_said (says s) p ms)) (rows_step p q x m ms h)
-      ∙ growing (is_ready s p (m ∷ ms) x) (is_ready s p ms x) (occurs q (parts_for s x)) (count (sent_to q (is_rows x p)) (all_said (says s) p ms)) (ready_more s p m ms x) (rows_said p q x ms h)
+      ∙ growing (is_ready s p (m ∷ ms) x) (is_ready s p ms x) (occurs q (participants_for s x)) (count (sent_to q (is_rows x p)) (all_said (says s) p ms)) (ready_more s p m ms x) (rows_said p q x ms h)
 
   -- Finished of x
 
@@ -222,13 +222,13 @@ module _ (s : Setting) where
       omega (
         arith,
         count-append (sent_to q t) (rows_mails s p (m ∷ ms) y) (flat_map (rows_mails s p (m ∷ ms)) xs),
-        count_all t p q (Rows y p (rows_at s p (m ∷ ms) y)) (parts_for s y),
-        ap {B = ℕ} (λ b. cond b (occurs q (parts_for s y)) 0) (h y (rows_at s p (m ∷ ms) y)),
+        count_all t p q (Rows y p (rows_at s p (m ∷ ms) y)) (participants_for s y),
+        ap {B = ℕ} (λ b. cond b (occurs q (participants_for s y)) 0) (h y (rows_at s p (m ∷ ms) y)),
         ready_other p q t m ms h xs,
       )
 
   same_finished : (x y : TxnId) (r : ℕ) (rows : List Keyed) (ms : List Msg) → id_eq y x ≡ false → is_finished s (Rows y r rows ∷ ms) x ≡ is_finished s ms x
-  same_finished x y r rows ms e = ap (λ b. list_all (λ q. (b && eqb r q) || has_rows ms x q) (parts_for s x)) e
+  same_finished x y r rows ms e = ap (λ b. list_all (λ q. (b && eqb r q) || has_rows ms x q) (participants_for s x)) e
 
   done_mails : (p q : ℕ) (x y : TxnId) (r : ℕ) (rows : List Keyed) (ms : List Msg) → count (sent_to q (is_done x p)) (finished_mails s p y (Rows y r rows) ms) ≡ cond (is_finished s (Rows y r rows ∷ ms) x && not (is_finished s ms x)) (cond (eqb (home s x) q) 1 0) 0
   done_mails p q x y r rows ms =

@@ -17,7 +17,7 @@ use Rattle.server_core.proofs.counts.Conserved.{count_in, count-append}
 use Rattle.server_core.proofs.counts.Local.{sent_to, count_msgs}
 use Rattle.server_core.proofs.values.Origins.{origin}
 use Rattle.server_core.proofs.counts.Prepares.{occurs}
-use Rattle.server_core.specs.Setting.{Setting, home, parts_for}
+use Rattle.server_core.specs.Setting.{Setting, home, participants_for}
 use Rattle.server_core.specs.GlobalOrder.{Slot, epochs, batch}
 use Rattle.server_core.specs.CalvinScheduler.{ticks, is_finished, is_ready, rows_at}
 use Rattle.server_core.specs.Calvin.{says, opening, became_ready, rows_mails, ready_mails, finished_mail, finished_mails, tick_mail, batch_mails}
@@ -35,7 +35,7 @@ module _ (s : Setting) where
   ready_from : (p : ℕ) (y : Mail) (ms : List Msg) (xs : List TxnId) → IsIn y (flat_map (rows_mails s p ms) xs) → y.from ≡ p
   ready_from p y ms xs i =
       let f = flat_in (rows_mails s p ms) y xs i in
-      let q = in_map_from (λ n. record { from = p; to = n; msg = Rows f.0 p (rows_at s p ms f.0) }) y (parts_for s f.0) f.2 in
+      let q = in_map_from (λ n. record { from = p; to = n; msg = Rows f.0 p (rows_at s p ms f.0) }) y (participants_for s f.0) f.2 in
       ap (λ (z : Mail). z.from) q.2
 
   one_from : (p : ℕ) (y z : Mail) (b : Bool) → z.from ≡ p → IsIn y (cond b (z ∷ []) []) → y.from ≡ p
@@ -104,7 +104,7 @@ module _ (s : Setting) where
             r.1,
             r.2,
             r.3,
-            rows_none (heard y.to H) x q (omega (arith, fly, rows_ledger s v H flight run x q y.to, at_most (is_ready s q (heard q H) x) (occurs y.to (parts_for s x)) (occurs_once s x y.to))),
+            rows_none (heard y.to H) x q (omega (arith, fly, rows_ledger s v H flight run x q y.to, at_most (is_ready s q (heard q H) x) (occurs y.to (participants_for s x)) (occurs_once s x y.to))),
             subst (λ l. RowsFor s x y.from l) (sym r.4) (part_formed s v f x y.from r.1),
             λ same. own x q rows is same,
           )
@@ -144,7 +144,7 @@ module _ (s : Setting) where
           let l : Slot = record { epoch = e; seq = q } in
           (is_batch l, rw is (rw (same_number e, same_number q) refl), omega (arith, few q e, batch_ledger s v H flight run l y.to r.4))
       go (Rows x q rows) is r' =
-          (is_rows x q, rw is (rw (id_self x, same_number q) refl), omega (arith, rows_ledger s v H flight run x q y.to, at_most (is_ready s q (heard q H) x) (occurs y.to (parts_for s x)) (occurs_once s x y.to)))
+          (is_rows x q, rw is (rw (id_self x, same_number q) refl), omega (arith, rows_ledger s v H flight run x q y.to, at_most (is_ready s q (heard q H) x) (occurs y.to (participants_for s x)) (occurs_once s x y.to)))
       go (Finished x q n) is r' =
           let r : RightMsg s H y.from y.to (Finished x q n) = subst (λ z. RightMsg s H y.from y.to z) is r' in
           (is_done x q, rw is (rw (id_self x, same_number q) refl), omega (arith, done_ledger s v H flight run x q y.to r.2, at_most (is_finished s (heard q H) x) (cond (eqb (home s x) y.to) 1 0) (at_most (eqb (home s x) y.to) 1 (omega arith))))

@@ -20,7 +20,7 @@ use Rattle.server_core.proofs.counts.Prepares.{occurs}
 use Rattle.server_core.proofs.counts.Ends.{count_all, off_if}
 use Rattle.deneva_base.specs.declared.keys.Access.{Access}
 use Rattle.deneva_base.specs.Partitions.{partition_of}
-use Rattle.server_core.specs.Setting.{Setting, home, parts_for}
+use Rattle.server_core.specs.Setting.{Setting, home, participants_for}
 use Rattle.server_core.specs.GlobalOrder.{Slot, epochs, batch, number}
 use Rattle.deneva_base.specs.Keys.{id_eq}
 use Rattle.server_core.specs.CalvinScheduler.{ticks, has_rows, is_finished, is_ready, rows_at}
@@ -53,8 +53,8 @@ module _ (s : Setting) where
       omega (
         arith,
         count-append (sent_to q t) (rows_mails s p ms y) (Rattle.std.specs.List.flat_map (rows_mails s p ms) xs),
-        count_all t p q (Rows y p (rows_at s p ms y)) (parts_for s y),
-        ap {B = ℕ} (λ b. cond b (occurs q (parts_for s y)) 0) (h.rows y (rows_at s p ms y)),
+        count_all t p q (Rows y p (rows_at s p ms y)) (participants_for s y),
+        ap {B = ℕ} (λ b. cond b (occurs q (participants_for s y)) 0) (h.rows y (rows_at s p ms y)),
         silent_rows t p q h ms xs,
       )
 
@@ -114,10 +114,10 @@ module _ (s : Setting) where
 
       go : (as' : List Access) → s.accesses x ≡ as' → 1 ≤ length as' → is_finished s [] x ≡ false
       go [] e h = absurd (omega arith)
-      go (a ∷ as') e h = let j = access_there s v.parts x a (subst (λ l. IsIn a l) (sym e) (inl refl)) in all_none (partition_of a.key s.parts) (parts_for s x) j
+      go (a ∷ as') e h = let j = access_there s v.parts x a (subst (λ l. IsIn a l) (sym e) (inl refl)) in all_none (partition_of a.key s.parts) (participants_for s x) j
 
   module _ (v : Valid s) (H : List Entry) (flight : List Mail) (run : IsRun s H flight) where
-    pub rows_ledger : (x : TxnId) (f p : ℕ) → count (sent_to p (is_rows x f)) flight + count_msgs (is_rows x f) (heard p H) ≡ cond (is_ready s f (heard f H) x) (occurs p (parts_for s x)) 0
+    pub rows_ledger : (x : TxnId) (f p : ℕ) → count (sent_to p (is_rows x f)) flight + count_msgs (is_rows x f) (heard p H) ≡ cond (is_ready s f (heard f H) x) (occurs p (participants_for s x)) 0
     rows_ledger x f p =
         omega (
           arith,

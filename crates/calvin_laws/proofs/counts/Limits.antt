@@ -8,8 +8,8 @@ use Rattle.server_core.specs.declared.messages.Mail.{Mail}
 use Rattle.server_core.specs.declared.messages.Entry.{Entry}
 use Rattle.txn_program.specs.Transactions.{numbers_below}
 use Rattle.server_core.specs.Runs.{heard}
-use Rattle.server_core.specs.Setting.{Setting, home, parts_for, homes}
-use Rattle.server_core.specs.CalvinScheduler.{takes_part}
+use Rattle.server_core.specs.Setting.{Setting, home, participants_for, homes}
+use Rattle.server_core.specs.CalvinScheduler.{participates}
 use Rattle.server_core.specs.GlobalOrder.{Slot, slots, eights, epochs, batch, number}
 use Rattle.server_core.specs.CalvinRuns.{IsRun, AllFitting}
 use Rattle.server_core.specs.Limits.{sum_of}
@@ -56,12 +56,12 @@ module _ (s : Setting) (small : Limits s) where
       greatest_under (λ q. eights (length (homes s q))) 1250 (numbers_below s.parts)
       (λ q. let h = filter_length (λ x. eqb (home s x) q) s.ids in omega (arith, h, small.ids))
 
-  parts_few : (x : TxnId) → length (parts_for s x) ≤ 16
-  parts_few x = omega (arith, filter_length (takes_part s x) (numbers_below s.parts), below_length s.parts, small.parts)
+  parts_few : (x : TxnId) → length (participants_for s x) ≤ 16
+  parts_few x = omega (arith, filter_length (participates s x) (numbers_below s.parts), below_length s.parts, small.parts)
 
-  most_few : (xs : List TxnId) → sum_of (λ x. most (length (parts_for s x))) xs ≤ length xs * 272
+  most_few : (xs : List TxnId) → sum_of (λ x. most (length (participants_for s x))) xs ≤ length xs * 272
   most_few [] = omega arith
-  most_few (x ∷ xs) = omega (arith, most_under (length (parts_for s x)) 16 (parts_few x), most_few xs)
+  most_few (x ∷ xs) = omega (arith, most_under (length (participants_for s x)) 16 (parts_few x), most_few xs)
 
   pub run_short : Valid s → (H : List Entry) (flight : List Mail) → IsRun s H flight → length H ≤ 3060000
   run_short v H flight run =

@@ -14,8 +14,8 @@ use Rattle.deneva_base.specs.Partitions.{partition_of}
 use Rattle.server_core.specs.Runs.{heard, entry_of}
 use Rattle.server_core.proofs.counts.Conserved.{handled}
 use Rattle.server_core.proofs.values.Values.{heard_mail}
-use Rattle.server_core.specs.Setting.{Setting, home, parts_for}
-use Rattle.server_core.specs.CalvinScheduler.{takes_part, has_rows, rows_from, is_ready, is_finished, rows_at}
+use Rattle.server_core.specs.Setting.{Setting, home, participants_for}
+use Rattle.server_core.specs.CalvinScheduler.{participates, has_rows, rows_from, is_ready, is_finished, rows_at}
 use Rattle.server_core.specs.GlobalOrder.{epochs, batch, order, number}
 use Rattle.server_core.specs.Calvin.{says, opening, became_ready, rows_mails, ready_mails, finished_mail, finished_mails, tick_mail, batch_mails}
 use Rattle.server_core.specs.CalvinRuns.{IsRun}
@@ -31,8 +31,8 @@ abbrev pub RightMsg : Setting → List Entry → ℕ → ℕ → Msg → Type 0
 RightMsg s H f p (Tick e) = (f ≡ p) × (e < epochs s) × (p < s.parts)
 RightMsg s H f p (Batch e q ids) = (q ≡ f) × (ids ≡ batch s (record { epoch = e; seq = q })) × (e < epochs s) × (q < s.parts) × (p < s.parts)
 RightMsg s H f p (Rows x q rows) =
-    (q ≡ f) × IsIn x s.ids × IsIn f (parts_for s x) × IsIn p (parts_for s x) × (rows ≡ serial_part s f x) × (is_ready s f (heard f H) x ≡ true)
-RightMsg s H f p (Finished x q n) = (q ≡ f) × (p ≡ home s x) × IsIn x s.ids × IsIn f (parts_for s x) × (n ≡ number s x) × (is_finished s (heard f H) x ≡ true)
+    (q ≡ f) × IsIn x s.ids × IsIn f (participants_for s x) × IsIn p (participants_for s x) × (rows ≡ serial_part s f x) × (is_ready s f (heard f H) x ≡ true)
+RightMsg s H f p (Finished x q n) = (q ≡ f) × (p ≡ home s x) × IsIn x s.ids × IsIn f (participants_for s x) × (n ≡ number s x) × (is_finished s (heard f H) x ≡ true)
 RightMsg s H f p m = ⊥
 
 abbrev pub Right : Setting → List Entry → Mail → Type 0
@@ -63,10 +63,10 @@ module _ (s : Setting) where
   right_later e H f p (Finished x q n) r = (r.0, r.1, r.2, r.3, r.4, finished_later f e H x r.5)
   right_later e H f p m r = absurd r
 
-  pub here_participant : Valid s → (x : TxnId) (p : ℕ) → takes_part s x p ≡ true → IsIn p (parts_for s x)
+  pub here_participant : Valid s → (x : TxnId) (p : ℕ) → participates s x p ≡ true → IsIn p (participants_for s x)
   here_participant v x p h =
       let f = any_found (λ a. eqb (partition_of a.key s.parts) p) (s.accesses x) h in
-      subst (λ n. IsIn n (parts_for s x)) (number_is (partition_of f.0.key s.parts) p f.2) (access_there s v.parts x f.0 f.1)
+      subst (λ n. IsIn n (participants_for s x)) (number_is (partition_of f.0.key s.parts) p f.2) (access_there s v.parts x f.0 f.1)
 
   -- the Rows that a node has handled
   pub known : (H : List Entry) (p : ℕ) → ((y : Mail) → IsIn y (handled H) → Right s H y) → Known s p (heard p H)
@@ -113,11 +113,11 @@ module _ (s : Setting) where
         let part = here_participant v x p r.here in
         let fresh : is_finished s (m.msg ∷ heard p H) x ≡ false
         = ⊎_elim
-        (λ d. absurd (not_both (is_ready s p (heard p H) x) (own_before x (all_at (has_rows (m.msg ∷ heard p H) x) p (parts_for s x) d part)) (not_true (is_ready s p (heard p H) x) b.1)))
+        (λ d. absurd (not_both (is_ready s p (heard p H) x) (own_before x (all_at (has_rows (m.msg ∷ heard p H) x) p (participants_for s x) d part)) (not_true (is_ready s p (heard p H) x) b.1)))
         (λ n. n)
         (is_or_not (is_finished s (m.msg ∷ heard p H) x))
         in
-        let q = in_map_from (λ n. record { from = p; to = n; msg = Rows x p (rows_at s p (m.msg ∷ heard p H) x) }) y (parts_for s x) f.2 in
+        let q = in_map_from (λ n. record { from = p; to = n; msg = Rows x p (rows_at s p (m.msg ∷ heard p H) x) }) y (participants_for s x) f.2 in
         subst (λ z. Right s H' z) (sym q.2)
         (refl, order_in s x r.ordered, part, q.1, rows_are s v p (m.msg ∷ heard p H) known_here x r fresh, subst (λ ms. is_ready s p ms x ≡ true) (sym (heard_here (length H) m H)) b.0)
 
@@ -145,7 +145,7 @@ module _ (s : Setting) where
         (λ b. rows_right y (subst (λ z. IsIn y (ready_mails s p z (heard p H))) (sym is) b))
         (in_cases y (finished_mails s p x (Rows x q rows) (heard p H)) (ready_mails s p (Rows x q rows) (heard p H)) i)
       where
-        done : (b : Bool) → is_finished s (Rows x q rows ∷ heard p H) x ≡ b → (c : Bool) → IsIn x s.ids → IsIn p (parts_for s x) → IsIn y (cond (b && not c) (finished_mail s p x ∷ []) []) → Right s H' y
+        done : (b : Bool) → is_finished s (Rows x q rows ∷ heard p H) x ≡ b → (c : Bool) → IsIn x s.ids → IsIn p (participants_for s x) → IsIn y (cond (b && not c) (finished_mail s p x ∷ []) []) → Right s H' y
         done true e false ix ip j =
             ⊎_elim
             (λ (w : y ≡ finished_mail s p x). subst (λ z. Right s H' z) (sym w) (refl, refl, ix, ip, refl, subst (λ ms. is_finished s ms x ≡ true) (ap (λ z. z ∷ heard p H) (sym is) ∙ sym (heard_here (length H) m H)) e))

@@ -11,9 +11,9 @@ use Rattle.deneva_base.specs.Partitions.{partition_of}
 use Rattle.deneva_base.specs.declared.rows.Keyed.{Keyed}
 use Rattle.server_core.specs.declared.messages.Msg.{Msg}
 use Rattle.server_core.specs.declared.messages.Msg.TheVariants.{Batch, Rows}
-use Rattle.server_core.specs.Setting.{Setting, parts_for}
+use Rattle.server_core.specs.Setting.{Setting, participants_for}
 use Rattle.deneva_base.specs.Modes.{writes}
-use Rattle.server_core.specs.CalvinScheduler.{takes_part, collide, clash, has_batch, has_rows, rows_from, as_far, taken, is_finished, unblocked, is_ready}
+use Rattle.server_core.specs.CalvinScheduler.{participates, collide, clash, has_batch, has_rows, rows_from, as_far, taken, is_finished, unblocked, is_ready}
 use Rattle.server_core.specs.GlobalOrder.{slots, batch, order, before, has_id}
 use Rattle.server_core.specs.Calvin.{became_ready}
 use Rattle.server_core.specs.CalvinProper.{Valid}
@@ -93,13 +93,13 @@ some_ids x (y ∷ xs) i = ⊎_elim (λ (is : x ≡ y). let e : id_eq y x ≡ tru
 
 module _ (s : Setting) (v : Valid s) (p : ℕ) where
   abbrev stands : List Msg → TxnId → Bool
-  stands ms x = takes_part s x p && not (is_finished s ms x)
+  stands ms x = participates s x p && not (is_finished s ms x)
 
   -- an active transaction is ready where none before it in the list conflicts with it
   pub ready_among : (ms : List Msg) (x : TxnId) → IsIn x (active s p ms) → is_ready s p ms x ≡ is_first s p (active s p ms) x
   ready_among ms x i =
       let f = filter_in (stands ms) x (taken s ms) i in
-      let b = and_parts (takes_part s x p) (not (is_finished s ms x)) f.1 in
+      let b = and_parts (participates s x p) (not (is_finished s ms x)) f.1 in
       ⊎_elim
       (λ t. t ∙ sym (forth f.0 f.1 t))
       (λ n. n ∙ sym (⊎_elim (λ t. absurd (not_both (is_ready s p ms x) (back f.0 f.1 b.0 t) n)) (λ m. m) (is_or_not (is_first s p (active s p ms) x))))
@@ -110,16 +110,16 @@ module _ (s : Setting) (v : Valid s) (p : ℕ) where
           all_from (λ y. not (clash s p x y)) (before x (active s p ms))
           (λ y k.
           let g = filter_in (stands ms) y (before x (taken s ms)) (subst (λ l. IsIn y l) (before_filter (stands ms) x (taken s ms) st) k) in
-          let c = and_parts (takes_part s y p) (not (is_finished s ms y)) g.1 in
+          let c = and_parts (participates s y p) (not (is_finished s ms y)) g.1 in
           ⊎_elim
           (λ d. absurd (not_both (is_finished s ms y) d (not_true (is_finished s ms y) c.1)))
           (λ n. ap not n)
           ((ready_is s p ms x h).free y (first_taken s v p ms x j y g.0)))
 
-      back : IsIn x (taken s ms) → stands ms x ≡ true → takes_part s x p ≡ true → is_first s p (active s p ms) x ≡ true → is_ready s p ms x ≡ true
+      back : IsIn x (taken s ms) → stands ms x ≡ true → participates s x p ≡ true → is_first s p (active s p ms) x ≡ true → is_ready s p ms x ≡ true
       back j st here h =
-          and_true (has_id x (taken s ms)) (takes_part s x p && unblocked s p ms x) (in_has x (taken s ms) j)
-          (and_true (takes_part s x p) (unblocked s p ms x) here
+          and_true (has_id x (taken s ms)) (participates s x p && unblocked s p ms x) (in_has x (taken s ms) j)
+          (and_true (participates s x p) (unblocked s p ms x) here
           (all_from (λ y. is_finished s ms y || not (clash s p x y)) (before x (order s))
           (λ y k.
           let in_taken : IsIn y (before x (taken s ms)) = taken_before s v p ms x j y k in
@@ -129,12 +129,12 @@ module _ (s : Setting) (v : Valid s) (p : ℕ) where
           (⊎_elim
           (λ c. all_at (λ z. not (clash s p x z)) y (before x (active s p ms)) h
           (subst (λ l. IsIn y l) (sym (before_filter (stands ms) x (taken s ms) st))
-          (in_filter (stands ms) y (before x (taken s ms)) in_taken (and_true (takes_part s y p) (not (is_finished s ms y)) (clash_here x y c) (ap not un)))))
+          (in_filter (stands ms) y (before x (taken s ms)) in_taken (and_true (participates s y p) (not (is_finished s ms y)) (clash_here x y c) (ap not un)))))
           (λ n. ap not n)
           (is_or_not (clash s p x y))))
           (is_or_not (is_finished s ms y)))))
         where
-          clash_here : (x y : TxnId) → clash s p x y ≡ true → takes_part s y p ≡ true
+          clash_here : (x y : TxnId) → clash s p x y ≡ true → participates s y p ≡ true
           clash_here x y c =
               let a = any_found (λ d. list_any (collide s.parts p d) (s.accesses y)) (s.accesses x) c in
               let b = any_found (collide s.parts p a.0) (s.accesses y) a.2 in
@@ -156,7 +156,7 @@ module _ (s : Setting) (v : Valid s) (p : ℕ) where
       let none : filter (became s p m ms) more ≡ []
       = filter_none (became s p m ms) more
       (λ x i. ⊎_elim
-      (λ t. absurd (not_twice (taken s (m ∷ ms)) more whole x (has_in x (taken s (m ∷ ms)) (and_parts (has_id x (taken s (m ∷ ms))) (takes_part s x p && unblocked s p (m ∷ ms) x) (and_parts (is_ready s p (m ∷ ms) x) (not (is_ready s p ms x)) t).0).0) i))
+      (λ t. absurd (not_twice (taken s (m ∷ ms)) more whole x (has_in x (taken s (m ∷ ms)) (and_parts (has_id x (taken s (m ∷ ms))) (participates s x p && unblocked s p (m ∷ ms) x) (and_parts (is_ready s p (m ∷ ms) x) (not (is_ready s p ms x)) t).0).0) i))
       (λ n. n)
       (is_or_not (became s p m ms x)))
       in
@@ -177,14 +177,14 @@ module _ (s : Setting) (v : Valid s) (p : ℕ) where
       still : (x : TxnId) → (is_ready s p (m ∷ ms) x ≡ true) × (not (is_ready s p ms x) ≡ true) → stands (m ∷ ms) x ≡ true
       still x b =
           let r = ready_is s p (m ∷ ms) x b.0 in
-          and_true (takes_part s x p) (not (is_finished s (m ∷ ms) x)) r.here
+          and_true (participates s x p) (not (is_finished s (m ∷ ms) x)) r.here
           (⊎_elim
-          (λ d. absurd (not_both (is_ready s p ms x) (own_now x (rows_from (m ∷ ms) x p) (rows_in (m ∷ ms) x p (all_at (has_rows (m ∷ ms) x) p (parts_for s x) d (here_participant s v x p r.here)))) (not_true (is_ready s p ms x) b.1)))
+          (λ d. absurd (not_both (is_ready s p ms x) (own_now x (rows_from (m ∷ ms) x p) (rows_in (m ∷ ms) x p (all_at (has_rows (m ∷ ms) x) p (participants_for s x) d (here_participant s v x p r.here)))) (not_true (is_ready s p ms x) b.1)))
           (λ n. ap not n)
           (is_or_not (is_finished s (m ∷ ms) x)))
 
   -- a batch brings what it takes
-  pub active_batch : (e q : ℕ) (ids : List TxnId) (ms : List Msg) → AllFit s p ms → active s p (Batch e q ids ∷ ms) ≡ active s p ms ++ filter (λ x. takes_part s x p) (newly_taken s (Batch e q ids) ms)
+  pub active_batch : (e q : ℕ) (ids : List TxnId) (ms : List Msg) → AllFit s p ms → active s p (Batch e q ids ∷ ms) ≡ active s p ms ++ filter (λ x. participates s x p) (newly_taken s (Batch e q ids) ms)
   active_batch e q ids ms fit =
       let m : Msg = Batch e q ids in
       let new : List TxnId = newly_taken s m ms in
@@ -193,23 +193,23 @@ module _ (s : Setting) (v : Valid s) (p : ℕ) where
       let whole : order s ≡ taken s ms ++ rest = ap (flat_map (batch s)) (whole_list (has_batch ms) (slots s)) ∙ flat_map-append (batch s) (as_far (has_batch ms) (slots s)) (past (has_batch ms) (slots s)) in
       ap (filter (stands (m ∷ ms))) grown
       ∙ filter-append (stands ms) (taken s ms) new
-      ∙ ap (λ l. active s p ms ++ l) (filter_same (stands ms) (λ x. takes_part s x p) new (λ x i.
+      ∙ ap (λ l. active s p ms ++ l) (filter_same (stands ms) (λ x. participates s x p) new (λ x i.
       ⊎_elim
       (λ t. ap (λ b. b && not (is_finished s ms x)) t
       ∙ ⊎_elim
       (λ d. absurd (not_twice (taken s ms) rest whole x
-      (has_in x (taken s ms) (and_parts (has_id x (taken s ms)) (takes_part s x p && unblocked s p ms x) (owned s p ms fit x (rows_from ms x p) (rows_in ms x p (all_at (has_rows ms x) p (parts_for s x) d (here_participant s v x p t))))).0)
+      (has_in x (taken s ms) (and_parts (has_id x (taken s ms)) (participates s x p && unblocked s p ms x) (owned s p ms fit x (rows_from ms x p) (rows_in ms x p (all_at (has_rows ms x) p (participants_for s x) d (here_participant s v x p t))))).0)
       (as_far_in s (has_batch (m ∷ ms)) x (past (has_batch ms) (slots s)) i)))
       (λ n. ap not n)
       (is_or_not (is_finished s ms x))
       ∙ sym t)
       (λ n. ap (λ b. b && not (is_finished s ms x)) n ∙ sym n)
-      (is_or_not (takes_part s x p))))
+      (is_or_not (participates s x p))))
 
   other_done : (x : TxnId) (q : ℕ) (rows : List Keyed) (ms : List Msg) (y : TxnId) → (x ≢ y) → is_finished s (Rows x q rows ∷ ms) y ≡ is_finished s ms y
   other_done x q rows ms y ne =
       let e : id_eq x y ≡ false = ⊎_elim (λ t. absurd (ne t.1)) (λ t. t.0) (id_tells x y) in
-      ap (λ b. list_all (λ r. (b && eqb q r) || has_rows ms y r) (parts_for s y)) e
+      ap (λ b. list_all (λ r. (b && eqb q r) || has_rows ms y r) (participants_for s y)) e
 
   -- Rows that finish x take it away
   pub active_finish : (x : TxnId) (q : ℕ) (rows : List Keyed) (ms : List Msg) → is_finished s (Rows x q rows ∷ ms) x ≡ true → active s p (Rows x q rows ∷ ms) ≡ without x (active s p ms)
@@ -218,8 +218,8 @@ module _ (s : Setting) (v : Valid s) (p : ℕ) where
       ⊎_elim
       (λ t.
       let d : is_finished s (Rows x q rows ∷ ms) y ≡ true = subst (λ z. is_finished s (Rows x q rows ∷ ms) z ≡ true) (sym t.1) f in
-      ap (λ b. takes_part s y p && not b) d ∙ off (takes_part s y p) ∙ sym (ap (λ b. stands ms y && not b) t.0 ∙ off (stands ms y)))
-      (λ t. ap (λ b. takes_part s y p && not b) (other_done x q rows ms y (λ is. t.1 (sym is))) ∙ sym (ap (λ b. stands ms y && not b) t.0 ∙ on (stands ms y)))
+      ap (λ b. participates s y p && not b) d ∙ off (participates s y p) ∙ sym (ap (λ b. stands ms y && not b) t.0 ∙ off (stands ms y)))
+      (λ t. ap (λ b. participates s y p && not b) (other_done x q rows ms y (λ is. t.1 (sym is))) ∙ sym (ap (λ b. stands ms y && not b) t.0 ∙ on (stands ms y)))
       (id_tells y x))
       ∙ sym (filter_and (λ y. not (id_eq y x)) (stands ms) (taken s ms))
     where
@@ -235,7 +235,7 @@ module _ (s : Setting) (v : Valid s) (p : ℕ) where
   pub active_same : (x : TxnId) (q : ℕ) (rows : List Keyed) (ms : List Msg) → is_finished s (Rows x q rows ∷ ms) x ≡ is_finished s ms x → active s p (Rows x q rows ∷ ms) ≡ active s p ms
   active_same x q rows ms f =
       filter_same (stands (Rows x q rows ∷ ms)) (stands ms) (taken s ms) (λ y i.
-      ap (λ b. takes_part s y p && not b)
+      ap (λ b. participates s y p && not b)
       (⊎_elim
       (λ t. subst (λ z. is_finished s (Rows x q rows ∷ ms) z ≡ is_finished s ms z) t.1 f)
       (λ t. other_done x q rows ms y t.1)

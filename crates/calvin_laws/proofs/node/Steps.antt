@@ -10,8 +10,8 @@ use Rattle.server_core.specs.declared.messages.Msg.TheVariants.{Tick, Batch, Row
 use Rattle.server_core.specs.declared.messages.Mail.{Mail}
 use Rattle.txn_program.specs.Transactions.{numbers_below}
 use Rattle.server_core.specs.Counts.{all_said}
-use Rattle.server_core.specs.Setting.{Setting, parts_for}
-use Rattle.server_core.specs.CalvinScheduler.{takes_part, clash, has_rows, is_finished, unblocked, is_ready, taken, rows_at}
+use Rattle.server_core.specs.Setting.{Setting, participants_for}
+use Rattle.server_core.specs.CalvinScheduler.{participates, clash, has_rows, is_finished, unblocked, is_ready, taken, rows_at}
 use Rattle.server_core.specs.GlobalOrder.{epochs, batch, order, before, has_id}
 use Rattle.deneva_base.specs.Keys.{id_eq}
 use Rattle.server_core.specs.Calvin.{says, became_ready, rows_mails, ready_mails, finished_mail, finished_mails, tick_mail, batch_mails}
@@ -35,7 +35,7 @@ module _ (s : Setting) (p : ℕ) where
   from_ready m ms y x q rows e i =
       let f = flat_in (rows_mails s p (m ∷ ms)) y (became_ready s p m ms) i in
       let g = filter_in (λ z. is_ready s p (m ∷ ms) z && not (is_ready s p ms z)) f.0 (order s) f.1 in
-      let n = in_map_from (λ k. record { from = p; to = k; msg = Rows f.0 p (rows_at s p (m ∷ ms) f.0) }) y (parts_for s f.0) f.2 in
+      let n = in_map_from (λ k. record { from = p; to = k; msg = Rows f.0 p (rows_at s p (m ∷ ms) f.0) }) y (participants_for s f.0) f.2 in
       let same : Rows x q rows ≡ Rows f.0 p (rows_at s p (m ∷ ms) f.0) = sym e ∙ ap (λ (z : Mail). z.msg) n.2 in
       let is : x ≡ f.0 = cc in
       subst (λ z. is_ready s p (m ∷ ms) z ≡ true) (sym is) (and_parts (is_ready s p (m ∷ ms) f.0) (not (is_ready s p ms f.0)) g.1).0
@@ -87,21 +87,21 @@ module _ (s : Setting) (p : ℕ) where
   pub batch_news : (e q : ℕ) (ids : List TxnId) (ms : List Msg) (z : TxnId) → is_ready s p (Batch e q ids ∷ ms) z ≡ true → is_ready s p ms z ≡ false → has_id z (taken s ms) ≡ false
   batch_news e q ids ms z h n =
       ⊎_elim
-      (λ t. absurd (not_both (is_ready s p ms z) (and_true (has_id z (taken s ms)) (takes_part s z p && unblocked s p ms z) t (and_parts (has_id z (taken s (Batch e q ids ∷ ms))) (takes_part s z p && unblocked s p ms z) h).1) n))
+      (λ t. absurd (not_both (is_ready s p ms z) (and_true (has_id z (taken s ms)) (participates s z p && unblocked s p ms z) t (and_parts (has_id z (taken s (Batch e q ids ∷ ms))) (participates s z p && unblocked s p ms z) h).1) n))
       (λ f. f)
       (is_or_not (has_id z (taken s ms)))
 
   other_done : (x : TxnId) (q : ℕ) (rows : List Keyed) (ms : List Msg) (y : TxnId) → id_eq x y ≡ false → is_finished s (Rows x q rows ∷ ms) y ≡ is_finished s ms y
-  other_done x q rows ms y e = ap (λ b. list_all (λ r. (b && eqb q r) || has_rows ms y r) (parts_for s y)) e
+  other_done x q rows ms y e = ap (λ b. list_all (λ r. (b && eqb q r) || has_rows ms y r) (participants_for s y)) e
 
   -- only those that x blocked
   pub rows_news : (x : TxnId) (q : ℕ) (rows : List Keyed) (ms : List Msg) (z : TxnId) → is_ready s p (Rows x q rows ∷ ms) z ≡ true → is_ready s p ms z ≡ false → (is_finished s (Rows x q rows ∷ ms) x ≡ true) × (is_finished s ms x ≡ false) × IsIn x (before z (order s)) × (clash s p z x ≡ true)
   rows_news x q rows ms z h n =
-      let a = and_parts (has_id z (taken s ms)) (takes_part s z p && unblocked s p (Rows x q rows ∷ ms) z) h in
-      let b = and_parts (takes_part s z p) (unblocked s p (Rows x q rows ∷ ms) z) a.1 in
+      let a = and_parts (has_id z (taken s ms)) (participates s z p && unblocked s p (Rows x q rows ∷ ms) z) h in
+      let b = and_parts (participates s z p) (unblocked s p (Rows x q rows ∷ ms) z) a.1 in
       let blocked : unblocked s p ms z ≡ false
       = ⊎_elim
-      (λ t. absurd (not_both (is_ready s p ms z) (and_true (has_id z (taken s ms)) (takes_part s z p && unblocked s p ms z) a.0 (and_true (takes_part s z p) (unblocked s p ms z) b.0 t)) n))
+      (λ t. absurd (not_both (is_ready s p ms z) (and_true (has_id z (taken s ms)) (participates s z p && unblocked s p ms z) a.0 (and_true (participates s z p) (unblocked s p ms z) b.0 t)) n))
       (λ f. f)
       (is_or_not (unblocked s p ms z))
       in

@@ -14,7 +14,7 @@ use Rattle.server_core.specs.declared.messages.Msg.TheVariants.{Rows}
 use Rattle.deneva_base.specs.Partitions.{partition_of}
 use Rattle.server_core.specs.Coordinator.{at_part}
 use Rattle.deneva_base.specs.declared.keys.Access.{Access}
-use Rattle.server_core.specs.Setting.{Setting, parts_for}
+use Rattle.server_core.specs.Setting.{Setting, participants_for}
 use Rattle.deneva_base.specs.Modes.{writes}
 use Rattle.server_core.specs.CalvinScheduler.{clash, changed, has_rows, rows_from, is_finished, collected, applied, now}
 use Rattle.txn_program.specs.Transactions.{reading}
@@ -118,7 +118,7 @@ module _ (s : Setting) (v : Valid s) (p : ℕ) (ms : List Msg) where
     ms' = Rows x q rows ∷ ms
 
     other_finished : (y : TxnId) → id_eq x y ≡ false → is_finished s ms' y ≡ is_finished s ms y
-    other_finished y e = ap (λ b. list_all (λ r. (b && eqb q r) || has_rows ms y r) (parts_for s y)) e
+    other_finished y e = ap (λ b. list_all (λ r. (b && eqb q r) || has_rows ms y r) (participants_for s y)) e
 
     other_collected : (y : TxnId) → id_eq x y ≡ false → collected s ms' y ≡ collected s ms y
     other_collected y e = ap (λ b. map (λ (a : Access). record { key = a.key; row = row_at (cond (b && eqb q (partition_of a.key s.parts)) rows (rows_from ms y (partition_of a.key s.parts))) a.key }) (reading (s.accesses y))) e

@@ -11,8 +11,8 @@ use Rattle.server_core.specs.declared.messages.Msg.TheVariants.{Tick, Batch, Row
 use Rattle.txn_program.specs.Transactions.{numbers_below}
 use Rattle.deneva_base.specs.Partitions.{partition_of}
 use Rattle.deneva_base.specs.declared.keys.Access.{Access}
-use Rattle.server_core.specs.Setting.{Setting, parts_for}
-use Rattle.server_core.specs.CalvinScheduler.{takes_part, clash, has_batch, has_rows, rows_from, as_far, taken, is_finished, unblocked, is_ready}
+use Rattle.server_core.specs.Setting.{Setting, participants_for}
+use Rattle.server_core.specs.CalvinScheduler.{participates, clash, has_batch, has_rows, rows_from, as_far, taken, is_finished, unblocked, is_ready}
 use Rattle.server_core.specs.GlobalOrder.{Slot, slots, batch, order, before, has_id}
 use Rattle.deneva_base.specs.Keys.{id_eq}
 use Rattle.server_core.proofs.lists.ListTests.{or_cases, or_left, or_right, id_tells, id_self, same_number, has_in, in_has, all_at, all_from, not_true, below_in, in_below}
@@ -54,7 +54,7 @@ in_rows (m ∷ ms) x q rows i =
 
 module _ (s : Setting) where
   pub finished_more : (m : Msg) (ms : List Msg) (x : TxnId) → is_finished s ms x ≡ true → is_finished s (m ∷ ms) x ≡ true
-  finished_more m ms x h = all_from (has_rows (m ∷ ms) x) (parts_for s x) (λ q i. rows_more m ms x q (all_at (has_rows ms x) q (parts_for s x) h i))
+  finished_more m ms x h = all_from (has_rows (m ∷ ms) x) (participants_for s x) (λ q i. rows_more m ms x q (all_at (has_rows ms x) q (participants_for s x) h i))
 
   as_far_more : (f g : Slot → Bool) (x : TxnId) (ls : List Slot) → ((l : Slot) → f l ≡ true → g l ≡ true) → IsIn x (flat_map (batch s) (as_far f ls)) → IsIn x (flat_map (batch s) (as_far g ls))
   as_far_more f g x [] more i = absurd i
@@ -75,10 +75,10 @@ module _ (s : Setting) where
 
   pub ready_more : (p : ℕ) (m : Msg) (ms : List Msg) (x : TxnId) → is_ready s p ms x ≡ true → is_ready s p (m ∷ ms) x ≡ true
   ready_more p m ms x h =
-      let a = and_parts (has_id x (taken s ms)) (takes_part s x p && unblocked s p ms x) h in
-      let b = and_parts (takes_part s x p) (unblocked s p ms x) a.1 in
-      and_true (has_id x (taken s (m ∷ ms))) (takes_part s x p && unblocked s p (m ∷ ms) x) (taken_more m ms x a.0)
-      (and_true (takes_part s x p) (unblocked s p (m ∷ ms) x) b.0
+      let a = and_parts (has_id x (taken s ms)) (participates s x p && unblocked s p ms x) h in
+      let b = and_parts (participates s x p) (unblocked s p ms x) a.1 in
+      and_true (has_id x (taken s (m ∷ ms))) (participates s x p && unblocked s p (m ∷ ms) x) (taken_more m ms x a.0)
+      (and_true (participates s x p) (unblocked s p (m ∷ ms) x) b.0
       (all_from (λ y. is_finished s (m ∷ ms) y || not (clash s p x y)) (before x (order s))
       (λ y i. ⊎_elim
       (λ f. or_left (is_finished s (m ∷ ms) y) (not (clash s p x y)) (finished_more m ms y f))
@@ -95,13 +95,13 @@ module _ (s : Setting) where
 
   pub record Ready (p : ℕ) (ms : List Msg) (x : TxnId) : Type 0 where
     pub ordered : IsIn x (order s)
-    pub here : takes_part s x p ≡ true
+    pub here : participates s x p ≡ true
     pub free : (y : TxnId) → IsIn y (before x (order s)) → (is_finished s ms y ≡ true) ⊎ (clash s p x y ≡ false)
 
   pub ready_is : (p : ℕ) (ms : List Msg) (x : TxnId) → is_ready s p ms x ≡ true → Ready p ms x
   ready_is p ms x h =
-      let a = and_parts (has_id x (taken s ms)) (takes_part s x p && unblocked s p ms x) h in
-      let b = and_parts (takes_part s x p) (unblocked s p ms x) a.1 in
+      let a = and_parts (has_id x (taken s ms)) (participates s x p && unblocked s p ms x) h in
+      let b = and_parts (participates s x p) (unblocked s p ms x) a.1 in
       record {
         ordered = as_far_in (has_batch ms) x (slots s) (has_in x (taken s ms) a.0);
         here = b.0;
@@ -116,13 +116,13 @@ module _ (s : Setting) where
       go true = mod-lt k.a (omega arith)
       go false = mod-lt (k.a - 1) (omega arith)
 
-  pub participant_from : (x : TxnId) (q : ℕ) → q < s.parts → takes_part s x q ≡ true → IsIn q (parts_for s x)
-  participant_from x q h e = in_filter (takes_part s x) q (numbers_below s.parts) (in_below q s.parts h) e
+  pub participant_from : (x : TxnId) (q : ℕ) → q < s.parts → participates s x q ≡ true → IsIn q (participants_for s x)
+  participant_from x q h e = in_filter (participates s x) q (numbers_below s.parts) (in_below q s.parts h) e
 
-  pub access_there : 1 ≤ s.parts → (x : TxnId) (a : Access) → IsIn a (s.accesses x) → IsIn (partition_of a.key s.parts) (parts_for s x)
+  pub access_there : 1 ≤ s.parts → (x : TxnId) (a : Access) → IsIn a (s.accesses x) → IsIn (partition_of a.key s.parts) (participants_for s x)
   access_there h x a i =
       participant_from x (partition_of a.key s.parts) (part_below a.key h)
       (any_at (λ b. eqb (partition_of b.key s.parts) (partition_of a.key s.parts)) a (s.accesses x) i (same_number (partition_of a.key s.parts)))
 
-  pub participant_is : (x : TxnId) (q : ℕ) → IsIn q (parts_for s x) → (takes_part s x q ≡ true) × (q < s.parts)
-  participant_is x q i = let f = filter_in (takes_part s x) q (numbers_below s.parts) i in (f.1, below_in q s.parts f.0)
+  pub participant_is : (x : TxnId) (q : ℕ) → IsIn q (participants_for s x) → (participates s x q ≡ true) × (q < s.parts)
+  participant_is x q i = let f = filter_in (participates s x) q (numbers_below s.parts) i in (f.1, below_in q s.parts f.0)

@@ -7,7 +7,7 @@ use Rattle.deneva_base.specs.Lists.{IsIn}
 use Rattle.deneva_base.proofs.Membership.{and_parts, and_true}
 use Rattle.server_core.specs.declared.messages.Msg.{Msg}
 use Rattle.server_core.specs.Setting.{Setting}
-use Rattle.server_core.specs.CalvinScheduler.{takes_part, clash, has_batch, as_far, taken, is_finished, unblocked, is_ready}
+use Rattle.server_core.specs.CalvinScheduler.{participates, clash, has_batch, as_far, taken, is_finished, unblocked, is_ready}
 use Rattle.server_core.specs.GlobalOrder.{slots, batch, order, before, has_id}
 use Rattle.deneva_base.specs.Keys.{id_eq}
 use Rattle.server_core.specs.CalvinProper.{Valid}
@@ -58,7 +58,7 @@ module _ (s : Setting) (v : Valid s) (p : ℕ) (ms : List Msg) (x : TxnId) where
       let r = ready_is s p ms x h in
       let i : IsIn x s.ids = order_in s x r.ordered in
       record {
-        was_taken = has_in x (taken s ms) (and_parts (has_id x (taken s ms)) (takes_part s x p && unblocked s p ms x) h).0;
+        was_taken = has_in x (taken s ms) (and_parts (has_id x (taken s ms)) (participates s x p && unblocked s p ms x) h).0;
         here = r.here;
         free = λ y j less un. ⊎_elim (λ d. absurd (not_both (is_finished s ms y) d un)) (λ c. c) (r.free y ((before_is s v x y i).1 (order_in s y (as_far_in s (has_batch ms) y (slots s) j)) less));
       }
@@ -66,8 +66,8 @@ module _ (s : Setting) (v : Valid s) (p : ℕ) (ms : List Msg) (x : TxnId) where
   pub rule_ready : IsReady s p ms x → is_ready s p ms x ≡ true
   rule_ready r =
       let i : IsIn x s.ids = order_in s x (as_far_in s (has_batch ms) x (slots s) r.was_taken) in
-      and_true (has_id x (taken s ms)) (takes_part s x p && unblocked s p ms x) (in_has x (taken s ms) r.was_taken)
-      (and_true (takes_part s x p) (unblocked s p ms x) r.here
+      and_true (has_id x (taken s ms)) (participates s x p && unblocked s p ms x) (in_has x (taken s ms) r.was_taken)
+      (and_true (participates s x p) (unblocked s p ms x) r.here
       (all_from (λ y. is_finished s ms y || not (clash s p x y)) (before x (order s))
       (λ y j. ⊎_elim
       (λ d. or_left (is_finished s ms y) (not (clash s p x y)) d)

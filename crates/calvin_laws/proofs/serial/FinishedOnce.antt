@@ -16,7 +16,7 @@ use Rattle.server_core.specs.Counts.{all_said, count}
 use Rattle.server_core.specs.GlobalOrder.{epochs, batch, number}
 use Rattle.server_core.specs.CalvinScheduler.{has_rows, is_finished, is_ready, rows_at}
 use Rattle.server_core.specs.Runs.{heard}
-use Rattle.server_core.specs.Setting.{Setting, home, parts_for}
+use Rattle.server_core.specs.Setting.{Setting, home, participants_for}
 use Rattle.server_core.specs.declared.messages.Entry.{Entry}
 use Rattle.server_core.specs.declared.messages.Mail.{Mail}
 use Rattle.server_core.specs.declared.messages.Msg.{Msg}
@@ -68,7 +68,7 @@ module _ (s : Setting) (x : TxnId) (p : ℕ) where
   no_rows : (y : Mail) (ms : List Msg) (zs : List TxnId) → IsIn y (flat_map (rows_mails s p ms) zs) → is_finished_of x y.msg ≡ true → ⊥
   no_rows y ms zs i e =
       let f = flat_in (rows_mails s p ms) y zs i in
-      let q = in_map_from (λ n. record { from = p; to = n; msg = Rows f.0 p (rows_at s p ms f.0) }) y (parts_for s f.0) f.2 in
+      let q = in_map_from (λ n. record { from = p; to = n; msg = Rows f.0 p (rows_at s p ms f.0) }) y (participants_for s f.0) f.2 in
       true≢false (sym e ∙ ap (λ (z : Mail). is_finished_of x z.msg) q.2)
 
   no_tick : (y : Mail) (e : ℕ) (b : Bool) → IsIn y (cond b (tick_mail p e ∷ []) []) → is_finished_of x y.msg ≡ true → ⊥
@@ -162,7 +162,7 @@ module _ (s : Setting) (x : TxnId) (p : ℕ) where
     which (Tick d) i e = absurd (true≢false (sym e))
     which m i e = absurd (true≢false (sym e))
 
-    finished_at : IsIn p (parts_for s x) → IsFinishedAt s H x p
+    finished_at : IsIn p (participants_for s x) → IsFinishedAt s H x p
     finished_at part =
         let done : is_finished s (heard p H) x ≡ true = all_done s v H run x (in_order s v x here) p part in
         record {
@@ -171,24 +171,23 @@ module _ (s : Setting) (x : TxnId) (p : ℕ) where
         }
 
     -- who takes no part hears no Rows, so it is not finished
-    not_finished : (IsIn p (parts_for s x) → ⊥) → is_finished s (heard p H) x ≡ false
+    not_finished : (IsIn p (participants_for s x) → ⊥) → is_finished s (heard p H) x ≡ false
     not_finished out =
         off_if (is_finished s (heard p H) x)
-        (λ e. not_both (has_rows (heard p H) x (home s x)) (all_at (has_rows (heard p H) x) (home s x) (parts_for s x) e (home_there s v x here)) (rows_none (heard p H) x (home s x) none))
+        (λ e. not_both (has_rows (heard p H) x (home s x)) (all_at (has_rows (heard p H) x) (home s x) (participants_for s x) e (home_there s v x here)) (rows_none (heard p H) x (home s x) none))
       where
         none : count_msgs (is_rows x (home s x)) (heard p H) ≡ 0
         none = omega (arith, rows_ledger s v H [] run x (home s x) p) ∙ go (is_ready s (home s x) (heard (home s x) H) x)
           where
-            go : (b : Bool) → cond b (occurs p (parts_for s x)) 0 ≡ 0
-            go true = not_occurs p (parts_for s x) out
+            go : (b : Bool) → cond b (occurs p (participants_for s x)) 0 ≡ 0
+            go true = not_occurs p (participants_for s x) out
             go false = refl
 
-    not_elsewhere : (IsIn p (parts_for s x) → ⊥) → (finishes s H x p ≡ []) × (finished_numbers s H x p ≡ [])
-    not_elsewhere out =
-        (
-          filter_none (λ (m : Mail). is_finished_of x m.msg) (all_said (says s) p (heard p H)) (said_by ∙ ap {B = ℕ} (λ b. cond b 1 0) (not_finished out)),
-          no_number (heard (home s x) H) (handled_by ∙ ap {B = ℕ} (λ b. cond b 1 0) (not_finished out)),
-        )
+    not_elsewhere : (IsIn p (participants_for s x) → ⊥) → (finishes s H x p ≡ []) × (finished_numbers s H x p ≡ [])
+    not_elsewhere out = (
+      filter_none (λ (m : Mail). is_finished_of x m.msg) (all_said (says s) p (heard p H)) (said_by ∙ ap {B = ℕ} (λ b. cond b 1 0) (not_finished out)),
+      no_number (heard (home s x) H) (handled_by ∙ ap {B = ℕ} (λ b. cond b 1 0) (not_finished out)),
+    )
 
     -- it comes to the home alone
     only_home : p ≢ home s x → filter (is_finished_of x) (heard p H) ≡ []

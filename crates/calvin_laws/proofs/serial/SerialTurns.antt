@@ -15,7 +15,7 @@ use Rattle.server_core.specs.declared.messages.Msg.TheVariants.{Rows}
 use Rattle.deneva_base.specs.Partitions.{partition_of}
 use Rattle.server_core.specs.Coordinator.{at_part}
 use Rattle.deneva_base.specs.declared.keys.Access.{Access}
-use Rattle.server_core.specs.Setting.{Setting, parts_for}
+use Rattle.server_core.specs.Setting.{Setting, participants_for}
 use Rattle.deneva_base.specs.Modes.{reads, writes}
 use Rattle.server_core.specs.CalvinScheduler.{collide, clash, reading_at, changed, has_rows, rows_from, is_finished, is_ready, collected, applied, now, rows_at}
 use Rattle.txn_program.specs.Transactions.{reading}
@@ -96,8 +96,8 @@ module _ (s : Setting) (v : Valid s) where
     -- a finished participant was ready here
     pub own_ready : Owned s p ms → (x : TxnId) (b : Access) → is_finished s ms x ≡ true → IsIn b (s.accesses x) → partition_of b.key s.parts ≡ p → Ready s p ms x
     own_ready own x b f i e =
-        let there = subst (λ n. IsIn n (parts_for s x)) e (access_there s v.parts x b i) in
-        ready_is s p ms x (own x (rows_from ms x p) (rows_in ms x p (all_at (has_rows ms x) p (parts_for s x) f there)))
+        let there = subst (λ n. IsIn n (participants_for s x)) e (access_there s v.parts x b i) in
+        ready_is s p ms x (own x (rows_from ms x p) (rows_in ms x p (all_at (has_rows ms x) p (participants_for s x) f there)))
 
     pub in_part : (w : Keyed) (ws : List Keyed) → IsIn w (at_part s.parts p ws) → IsIn w ws
     in_part w ws i = (filter_in (λ u. eqb (partition_of u.key s.parts) p) w ws i).0
@@ -112,7 +112,7 @@ module _ (s : Setting) (v : Valid s) where
         (reading (s.accesses x))
         (λ a i.
         let acc = filter_in (λ b. reads b.mode) a (s.accesses x) i in
-        let has = all_at (has_rows ms x) (partition_of a.key s.parts) (parts_for s x) f (access_there s v.parts x a acc.0) in
+        let has = all_at (has_rows ms x) (partition_of a.key s.parts) (participants_for s x) f (access_there s v.parts x a acc.0) in
         let is = (k.right x (partition_of a.key s.parts) (rows_from ms x (partition_of a.key s.parts)) (rows_in ms x (partition_of a.key s.parts) has)).1 in
         ap (λ row. record { key = a.key; row = row }) (ap (λ l. row_at l a.key) is ∙ found_keyed (rows_before s x) a (reading_at s (partition_of a.key s.parts) x) (in_filter (λ b. eqb (partition_of b.key s.parts) (partition_of a.key s.parts)) a (reading (s.accesses x)) i (same_number (partition_of a.key s.parts)))))
 

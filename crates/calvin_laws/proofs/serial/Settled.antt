@@ -19,8 +19,8 @@ use Rattle.server_core.specs.Runs.{heard}
 use Rattle.server_core.proofs.counts.Local.{count_msgs}
 use Rattle.server_core.proofs.counts.Prepares.{occurs}
 use Rattle.deneva_base.specs.declared.keys.Access.{Access}
-use Rattle.server_core.specs.Setting.{Setting, home, home_in, parts_for}
-use Rattle.server_core.specs.CalvinScheduler.{takes_part, collide, clash, has_batch, has_rows, has_finished, as_far, taken, is_finished, unblocked, is_ready, collected, applied, now}
+use Rattle.server_core.specs.Setting.{Setting, home, home_in, participants_for}
+use Rattle.server_core.specs.CalvinScheduler.{participates, collide, clash, has_batch, has_rows, has_finished, as_far, taken, is_finished, unblocked, is_ready, collected, applied, now}
 use Rattle.deneva_base.specs.Modes.{writes}
 use Rattle.server_core.specs.GlobalOrder.{Slot, slots, epochs, batch, order, before, has_id, number}
 use Rattle.server_core.specs.CalvinRuns.{IsRun}
@@ -55,13 +55,13 @@ abbrev reads_of : Setting → List Entry → TxnId → List Keyed
 reads_of s H x = collected s (heard (home s x) H) x
 
 abbrev decided : Setting → List Entry → List TxnId
-decided s H = filter (λ x. list_all (has_finished (heard (home s x) H) x) (parts_for s x)) (order s)
+decided s H = filter (λ x. list_all (has_finished (heard (home s x) H) x) (participants_for s x)) (order s)
 
 module _ (s : Setting) (v : Valid s) where
-  pub home_there : (x : TxnId) → IsIn x s.ids → IsIn (home s x) (parts_for s x)
+  pub home_there : (x : TxnId) → IsIn x s.ids → IsIn (home s x) (participants_for s x)
   home_there x i = go (s.accesses x) refl (v.some x i)
     where
-      go : (as' : List Access) → s.accesses x ≡ as' → 1 ≤ length as' → IsIn (home_in s.parts as') (parts_for s x)
+      go : (as' : List Access) → s.accesses x ≡ as' → 1 ≤ length as' → IsIn (home_in s.parts as') (participants_for s x)
       go [] e h = absurd (omega arith)
       go (a ∷ as') e h = access_there s v.parts x a (subst (λ l. IsIn a l) (sym e) (inl refl))
 
@@ -89,26 +89,26 @@ module _ (s : Setting) (v : Valid s) where
     all_taken p h = ap (flat_map (batch s)) (as_far_all (has_batch (heard p H)) (slots s) (all_batches p h))
 
     abbrev Done : TxnId → Type 0
-    Done x = (p : ℕ) → IsIn p (parts_for s x) → is_finished s (heard p H) x ≡ true
+    Done x = (p : ℕ) → IsIn p (participants_for s x) → is_finished s (heard p H) x ≡ true
 
     -- who conflicts at q has an access there
-    clash_part : (q : ℕ) (x y : TxnId) → clash s q x y ≡ true → IsIn q (parts_for s y)
+    clash_part : (q : ℕ) (x y : TxnId) → clash s q x y ≡ true → IsIn q (participants_for s y)
     clash_part q x y h =
         let a = any_found (λ c. list_any (collide s.parts q c) (s.accesses y)) (s.accesses x) h in
         let b = any_found (collide s.parts q a.0) (s.accesses y) a.2 in
         let c = and_parts (key_eq a.0.key b.0.key) (eqb (partition_of a.0.key s.parts) q && (writes a.0.mode || writes b.0.mode)) b.2 in
         let d = and_parts (eqb (partition_of a.0.key s.parts) q) (writes a.0.mode || writes b.0.mode) c.1 in
         let same : a.0.key ≡ b.0.key = ⊎_elim (λ t. t.1) (λ t. absurd (not_both (key_eq a.0.key b.0.key) c.0 t.0)) (key_tells a.0.key b.0.key) in
-        subst (λ n. IsIn n (parts_for s y)) (ap (λ k. partition_of k s.parts) (sym same) ∙ number_is (partition_of a.0.key s.parts) q d.0) (access_there s v.parts y b.0 b.1)
+        subst (λ n. IsIn n (participants_for s y)) (ap (λ k. partition_of k s.parts) (sym same) ∙ number_is (partition_of a.0.key s.parts) q d.0) (access_there s v.parts y b.0 b.1)
 
-    next_ready : (pre : List TxnId) (x : TxnId) (post : List TxnId) → order s ≡ pre ++ x ∷ post → ((y : TxnId) → IsIn y pre → Done y) → (q : ℕ) → IsIn q (parts_for s x) → is_ready s q (heard q H) x ≡ true
+    next_ready : (pre : List TxnId) (x : TxnId) (post : List TxnId) → order s ≡ pre ++ x ∷ post → ((y : TxnId) → IsIn y pre → Done y) → (q : ℕ) → IsIn q (participants_for s x) → is_ready s q (heard q H) x ≡ true
     next_ready pre x post e done q i =
         let here : before x (order s) ≡ pre = ap (before x) e ∙ before_split x pre post (subst (λ l. ids_in x l ≤ 1) e (order_once s v x)) in
         let part = participant_is s x q i in
         let ordered : has_id x (order s) ≡ true = in_has x (order s) (subst (λ l. IsIn x l) (sym e) (in_right x pre (x ∷ post) (inl refl))) in
-        and_true (has_id x (taken s (heard q H))) (takes_part s x q && unblocked s q (heard q H) x)
+        and_true (has_id x (taken s (heard q H))) (participates s x q && unblocked s q (heard q H) x)
         (subst (λ l. has_id x l ≡ true) (sym (all_taken q part.1)) ordered)
-        (and_true (takes_part s x q) (unblocked s q (heard q H) x) part.0
+        (and_true (participates s x q) (unblocked s q (heard q H) x) part.0
         (all_from (λ y. is_finished s (heard q H) y || not (clash s q x y)) (before x (order s))
         (λ y j. ⊎_elim
         (λ c. or_left (is_finished s (heard q H) y) (not (clash s q x y)) (done y (subst (λ l. IsIn y l) here j) q (clash_part q x y c)))
@@ -117,9 +117,9 @@ module _ (s : Setting) (v : Valid s) where
 
     next_done : (pre : List TxnId) (x : TxnId) (post : List TxnId) → order s ≡ pre ++ x ∷ post → ((y : TxnId) → IsIn y pre → Done y) → Done x
     next_done pre x post e done p i =
-        all_from (has_rows (heard p H) x) (parts_for s x)
+        all_from (has_rows (heard p H) x) (participants_for s x)
         (λ q j. rows_some (heard p H) x q
-        (omega (arith, rows_ledger s v H [] run x q p, ap {B = ℕ} (λ b. cond b (occurs p (parts_for s x)) 0) (next_ready pre x post e done q j), in_occurs p (parts_for s x) i)))
+        (omega (arith, rows_ledger s v H [] run x q p, ap {B = ℕ} (λ b. cond b (occurs p (participants_for s x)) 0) (next_ready pre x post e done q j), in_occurs p (participants_for s x) i)))
 
     done_from : (pre xs : List TxnId) → order s ≡ pre ++ xs → ((y : TxnId) → IsIn y pre → Done y) → (y : TxnId) → IsIn y (pre ++ xs) → Done y
     done_from pre [] e done y i = ⊎_elim (done y) (λ n. absurd n) (in_cases y pre [] i)
@@ -130,11 +130,11 @@ module _ (s : Setting) (v : Valid s) where
         (subst (λ l. IsIn y l) (append-one x pre xs) i)
 
     -- every transaction is finished at every participant
-    pub all_done : (x : TxnId) → IsIn x (order s) → (p : ℕ) → IsIn p (parts_for s x) → is_finished s (heard p H) x ≡ true
+    pub all_done : (x : TxnId) → IsIn x (order s) → (p : ℕ) → IsIn p (participants_for s x) → is_finished s (heard p H) x ≡ true
     all_done x i = done_from [] (order s) refl (λ y j. absurd j) x i
 
     -- and its Finished was handled at its home, once
-    pub all_told : (x : TxnId) → IsIn x (order s) → (p : ℕ) → IsIn p (parts_for s x) → count_msgs (is_done x p) (heard (home s x) H) ≡ 1
+    pub all_told : (x : TxnId) → IsIn x (order s) → (p : ℕ) → IsIn p (participants_for s x) → count_msgs (is_done x p) (heard (home s x) H) ≡ 1
     all_told x i p j =
         omega (
           arith,
@@ -145,8 +145,8 @@ module _ (s : Setting) (v : Valid s) where
 
     pub all_decided : decided s H ≡ order s
     all_decided =
-        filter_all (λ x. list_all (has_finished (heard (home s x) H) x) (parts_for s x)) (order s)
-        (λ x i. all_from (has_finished (heard (home s x) H) x) (parts_for s x) (λ p j. done_some (heard (home s x) H) x p (omega (arith, all_told x i p j))))
+        filter_all (λ x. list_all (has_finished (heard (home s x) H) x) (participants_for s x)) (order s)
+        (λ x i. all_from (has_finished (heard (home s x) H) x) (participants_for s x) (λ p j. done_some (heard (home s x) H) x p (omega (arith, all_told x i p j))))
 
     known_at : (p : ℕ) → Known s p (heard p H)
     known_at p = known s H p (λ y i. rights s v H [] run y (inr i))
@@ -165,17 +165,17 @@ module _ (s : Setting) (v : Valid s) where
     node_rows p k e =
         changed_part s.parts p (is_finished s (heard p H)) (applied s p (heard p H)) (serial_changes s v) s.loaded s.loaded (order s) k e refl
         (λ x i. applied_is s v p (heard p H) (known_at p) x)
-        (λ x w i un iw is. not_both (is_finished s (heard p H) x) (all_done x i p (subst (λ n. IsIn n (parts_for s x)) (ap (λ z. partition_of z s.parts) is ∙ e) (there x w i iw))) un)
+        (λ x w i un iw is. not_both (is_finished s (heard p H) x) (all_done x i p (subst (λ n. IsIn n (participants_for s x)) (ap (λ z. partition_of z s.parts) is ∙ e) (there x w i iw))) un)
         ∙ ap (λ (t : Table). t k) (sym (by_changes s v [] (order s) [] (sym (append-nil (order s)))))
       where
-        there : (x : TxnId) (w : Keyed) → IsIn x (order s) → IsIn w (serial_changes s v x) → IsIn (partition_of w.key s.parts) (parts_for s x)
+        there : (x : TxnId) (w : Keyed) → IsIn x (order s) → IsIn w (serial_changes s v x) → IsIn (partition_of w.key s.parts) (participants_for s x)
         there x w i iw =
             ⊎_elim
-            (λ c. let a = v.writes x (reads_on s (rows_before s x) x) w (order_in s x i) (length-map (reading (s.accesses x)) (λ a. record { key = a.key; row = row_or_empty (rows_before s x a.key) })) c in subst (λ z. IsIn (partition_of z s.parts) (parts_for s x)) a.2 (access_there s v.parts x a.0 a.1))
+            (λ c. let a = v.writes x (reads_on s (rows_before s x) x) w (order_in s x i) (length-map (reading (s.accesses x)) (λ a. record { key = a.key; row = row_or_empty (rows_before s x a.key) })) c in subst (λ z. IsIn (partition_of z s.parts) (participants_for s x)) a.2 (access_there s v.parts x a.0 a.1))
             (λ c. (v.appends x (reads_on s (rows_before s x) x) w (order_in s x i) (length-map (reading (s.accesses x)) (λ a. record { key = a.key; row = row_or_empty (rows_before s x a.key) })) c).0)
             (change_cases (s.effect x (reads_on s (rows_before s x) x)) w iw)
 
-    pub told : (x : TxnId) (p : ℕ) → IsIn x s.ids → IsIn p (parts_for s x) → IsIn (Finished x p (number s x)) (heard (home s x) H)
+    pub told : (x : TxnId) (p : ℕ) → IsIn x s.ids → IsIn p (participants_for s x) → IsIn (Finished x p (number s x)) (heard (home s x) H)
     told x p i j = let f = find_msg (is_done x p) (heard (home s x) H) (omega (arith, all_told x (in_order s v x i) p j)) in which f.0 f.1 f.2
       where
         which : (m : Msg) → IsIn m (heard (home s x) H) → is_done x p m ≡ true → IsIn (Finished x p (number s x)) (heard (home s x) H)

@@ -4,26 +4,26 @@ ghost use Rattle.chain_control.specs.Requests.{is_stopped, stamp_among};
 ghost use Rattle.chain_control.specs.Links.{link_below};
 ghost use Rattle.chain_control.specs.Chains.{chain_of, opened, refusal, with_request, with_grant, low_of};
 
-use super::Line;
-use crate::links::{Link, link_below, read};
+use super::KeyVersions;
+use crate::links::{ReadVersion, link_below, read};
 use crate::requests::{Request, is_stopped, place_of, stamp_among};
 use deneva_base::{Attempt, Cause, Key, NoMemory, Number};
 use row_store::Version;
 use std::alloc::Global;
 
-impl Line {
+impl KeyVersions {
     /// A line with the loaded version.
-    pub fn open(alloc: Global, version: &Version) -> Result<Line, NoMemory>
+    pub fn open(alloc: Global, version: &Version) -> Result<KeyVersions, NoMemory>
         ensures { IfOk result (λ l. chain_of l ≡ opened version.now) }
     {
         let row = version.row.share()?;
         let mut links = Vec::new(alloc);
-        links.push(Link {
+        links.push(ReadVersion {
             number: version.number,
             row,
             read: 0,
         })?;
-        Ok(Line {
+        Ok(KeyVersions {
             requests: Vec::new(alloc),
             links,
             floor: 0,
@@ -31,7 +31,7 @@ impl Line {
     }
 
     /// The version of the greatest number below the stamp.
-    pub fn below(&self, stamp: u64) -> Option<&Link>
+    pub fn below(&self, stamp: u64) -> Option<&ReadVersion>
         ensures { option_map (λ l. l.now) result ≡ link_below stamp None (chain_of self.now).links }
     {
         link_below(&self.links, stamp)

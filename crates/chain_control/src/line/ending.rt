@@ -6,12 +6,12 @@ ghost use Rattle.chain_control.specs.Requests.{has_request};
 ghost use Rattle.chain_control.specs.Chains.{chain_of, without, committed, overtaken_by, with_link, unread, granted, trimmed, goers};
 ghost use Rattle.chain_control.specs.Tables.{no_one};
 
-use super::Line;
-use crate::links::{Link, floor, read};
+use super::KeyVersions;
+use crate::links::{ReadVersion, floor, read};
 use crate::requests::{Waiter, has_request, is_awaited};
 use deneva_base::{Attempt, Key, NoMemory, Number, Row};
 
-impl Line {
+impl KeyVersions {
     /// Puts the requests that wait and are to be granted when an attempt ends, which wrote the key where there is a number,
     /// at the end of a list.
     pub fn push_goers(
@@ -69,7 +69,7 @@ impl Line {
         requires room { vec_len self.old.links + vec_len self.old.requests < vec_capacity self.old.links }
         ensures { chain_of self.new ≡ with_link (unread number row) (chain_of self.old) }
     {
-        let _ = self.links.push(Link {
+        let _ = self.links.push(ReadVersion {
             number,
             row,
             read: 0,

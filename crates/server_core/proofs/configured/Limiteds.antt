@@ -10,7 +10,7 @@ use Rattle.txn_program.proofs.WorkloadLaws as law
 use Rattle.server_core.specs.Configs.{IsConfig}
 use Rattle.protocol_rules.specs.Protocols.{IsVoting}
 use Rattle.server_core.specs.Limits.{most_of, sum_of, most_events, Limits}
-use Rattle.server_core.specs.Setting.{Setting, setting, parts_of}
+use Rattle.server_core.specs.Setting.{Setting, setting, partitions_of}
 use Rattle.server_core.proofs.configured.ValidSettings.{rule_served}
 
 times_le : (a b k : ℕ) → a ≤ b → a * k ≤ b * k
@@ -24,7 +24,7 @@ sum_within f most (x ∷ xs) h = omega (arith, h x (inl refl), sum_within f most
     one_more n m = grind arith
 
 -- 10,000 transactions of at most 18 accesses at 16 partitions, with 8 attempts each, have at most 8,080,000 events
-events_within : (s : Setting) → s.attempts ≤ 8 → length s.ids ≤ 10000 → ((x : TxnId) → (length (s.accesses x) ≤ 18) × (length (parts_of s.parts (s.accesses x)) ≤ 16)) → most_events s ≤ 8080000
+events_within : (s : Setting) → s.attempts ≤ 8 → length s.ids ≤ 10000 → ((x : TxnId) → (length (s.accesses x) ≤ 18) × (length (partitions_of s.parts (s.accesses x)) ≤ 16)) → most_events s ≤ 8080000
 events_within s eight ids each =
     let all = sum_within (λ x. s.attempts * most_of s x) 808 s.ids (λ x i. of_one s.attempts (most_of s x) eight (omega (arith, (each x).0, (each x).1))) in
     omega (arith, all, ids)
@@ -33,7 +33,7 @@ events_within s eight ids each =
     of_one a b h l = omega (arith, times_le a 8 b h, l)
 
 -- so they keep all numbers below 2^48, under each rule whose span is at most 8,192
-limits_within : (s : Setting) (span : ℕ) → Grows s.rule span → span ≤ 8192 → s.parts ≤ 16 → s.attempts ≤ 8 → length s.ids ≤ 10000 → ((x : TxnId) → (length (s.accesses x) ≤ 18) × (length (parts_of s.parts (s.accesses x)) ≤ 16)) → Limits s
+limits_within : (s : Setting) (span : ℕ) → Grows s.rule span → span ≤ 8192 → s.parts ≤ 16 → s.attempts ≤ 8 → length s.ids ≤ 10000 → ((x : TxnId) → (length (s.accesses x) ≤ 18) × (length (partitions_of s.parts (s.accesses x)) ≤ 16)) → Limits s
 limits_within s span g within parts eight ids each =
     let events = events_within s eight ids each in
     record { span = span; grows = g; short = omega (arith, events); small = omega (arith, in_all (most_events s) (span + 2 * s.parts) events (omega (arith, within, parts))) }

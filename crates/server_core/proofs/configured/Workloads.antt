@@ -30,7 +30,7 @@ use Rattle.server_core.specs.Coordinator.{reads_of, effect_of}
 use Rattle.server_core.specs.Effects.{lasting, written, appended}
 use Rattle.server_core.specs.Proper.{FineReplies, ids_in, keys_in}
 use Rattle.server_core.specs.Replies.{Reply}
-use Rattle.server_core.specs.Setting.{setting, parts_of}
+use Rattle.server_core.specs.Setting.{setting, partitions_of}
 
 -- the row of a key is one of the rows
 pub found : (key : Key) (row : Row) (rows : List Keyed) → row_of rows key ≡ Some row → IsIn (record { key = key; row = row }) rows
@@ -93,7 +93,7 @@ module _ (c : Config) (w : Workload) (v : IsValid w) where
     pub distinct_appends : Distinct (appended (effect_in w x rows))
     distinct_appends = distinct_lasting (effect_in w x rows).verdict _ (law.distinct_appends w v x rows)
 
-    pub appends : (parts : ℕ) → 1 ≤ parts → (r : Keyed) → IsIn r (appended (effect_in w x rows)) → (5 ≤ r.key.table) × (r.key.table ≤ 8) × IsIn (partition_of r.key parts) (parts_of parts (accesses_in w x))
+    pub appends : (parts : ℕ) → 1 ≤ parts → (r : Keyed) → IsIn r (appended (effect_in w x rows)) → (5 ≤ r.key.table) × (r.key.table ≤ 8) × IsIn (partition_of r.key parts) (partitions_of parts (accesses_in w x))
     appends parts some r i =
         let listed = lasts (effect_in w x rows).verdict _ r i in
         let tables = law.append_table w v x rows r listed in

@@ -17,7 +17,7 @@ use Rattle.server_core.specs.Setting.{Setting, participants}
 use Rattle.server_core.specs.Replies.{grants_for, votes_for, refused_for, all_voted}
 use Rattle.server_core.specs.declared.ballots.Ballot.{Ballot}
 use Rattle.server_core.specs.Voting.{says}
-use Rattle.server_core.specs.Coordinator.{coordinator, asked_parts, decision, first_no, to_all, polled, greatest_lo, least_hi}
+use Rattle.server_core.specs.Coordinator.{coordinator, asked_partitions, decision, first_no, to_all, polled, greatest_lo, least_hi}
 use Rattle.server_core.specs.Stamps.{stamp_from, stamped}
 use Rattle.server_core.specs.VotingFits.{Suits, AllFit, HasVoted}
 use Rattle.server_core.specs.Counts.{all_said, count}
@@ -60,7 +60,7 @@ module _ (s : Setting) (p : ℕ) (who : Attempt) (q : ℕ) where
   replies = record { granted = λ x k r v b. refl; refused = λ x k c. refl; yes' = λ x part lo hi. refl; no' = λ x part c. refl; done = λ x part. refl; undone = λ x part. refl }
 
   abbrev ended : List Msg → ℕ
-  ended ms = cond (refused_for who ms) (occurs q (asked_parts s ms who)) 0 + cond (all_voted (votes_for who ms) (participants s who)) (occurs q (participants s who)) 0
+  ended ms = cond (refused_for who ms) (occurs q (asked_partitions s ms who)) 0 + cond (all_voted (votes_for who ms) (participants s who)) (occurs q (participants s who)) 0
 
   is_decision : (x : Attempt) (bs : List Ballot) (o : Option (ℕ × Cause)) → is_end who (decision x bs o) ≡ attempt_eq x who
   is_decision x bs (Some c) = refl
@@ -113,11 +113,11 @@ module _ (s : Setting) (p : ℕ) (who : Attempt) (q : ℕ) where
 
   at_refused : (x : Attempt) (k : Key) (c : Cause) (ms : List Msg) (f : ℕ) → Suits s p f (Refused x k c) ms → count (sent_to q (is_end who)) (coordinator s p (Refused x k c) ms) + ended ms ≡ ended (Refused x k c ∷ ms)
   at_refused x k c ms f fit =
-      let n = count_all (is_end who) p q (Abort x) (asked_parts s ms x) in
+      let n = count_all (is_end who) p q (Abort x) (asked_partitions s ms x) in
       ⊎_elim
       (λ t. let e : refused_for who ms ≡ false = subst (λ y. refused_for y ms ≡ false) t.1 fit.2.1.1 in
-      rw (t.0, e) (omega (arith, n ∙ ap (λ b. cond b (occurs q (asked_parts s ms x)) 0) t.0, ap (λ y. occurs q (asked_parts s ms y)) t.1)))
-      (λ t. rw t.0 (omega (arith, n ∙ ap (λ b. cond b (occurs q (asked_parts s ms x)) 0) t.0)))
+      rw (t.0, e) (omega (arith, n ∙ ap (λ b. cond b (occurs q (asked_partitions s ms x)) 0) t.0, ap (λ y. occurs q (asked_partitions s ms y)) t.1)))
+      (λ t. rw t.0 (omega (arith, n ∙ ap (λ b. cond b (occurs q (asked_partitions s ms x)) 0) t.0)))
       (attempt_tells x who)
 
   at_granted : (x : Attempt) (k : Key) (row : Row) (version : Number) (bound : ℕ) (ms : List Msg) (f : ℕ) → Suits s p f (Granted x k row version bound) ms → count (sent_to q (is_end who)) (coordinator s p (Granted x k row version bound) ms) + ended ms ≡ ended (Granted x k row version bound ∷ ms)
@@ -131,7 +131,7 @@ module _ (s : Setting) (p : ℕ) (who : Attempt) (q : ℕ) where
   step : (m : Msg) (ms : List Msg) → count (sent_to q (is_end who)) (coordinator s p m ms) + ended ms ≡ ended (m ∷ ms) → count (sent_to q (is_end who)) (all_said (says s) p ms) ≡ ended ms → count (sent_to q (is_end who)) (all_said (says s) p (m ∷ ms)) ≡ ended (m ∷ ms)
   step m ms e ih = omega (arith, more_said s p q (is_end who) m ms, none_participant s p q (is_end who) replies m ms)
 
-  pub ends_said : (ms : List Msg) → AllFit s p ms → count (sent_to q (is_end who)) (all_said (says s) p ms) ≡ cond (refused_for who ms) (occurs q (asked_parts s ms who)) 0 + cond (all_voted (votes_for who ms) (participants s who)) (occurs q (participants s who)) 0
+  pub ends_said : (ms : List Msg) → AllFit s p ms → count (sent_to q (is_end who)) (all_said (says s) p ms) ≡ cond (refused_for who ms) (occurs q (asked_partitions s ms who)) 0 + cond (all_voted (votes_for who ms) (participants s who)) (occurs q (participants s who)) 0
   ends_said [] fit = omega (arith, all_none q (participants s who))
   ends_said (Yes x part lo hi ∷ ms) fit = step (Yes x part lo hi) ms (at_yes x part lo hi ms fit.0.0 fit.0.1) (ends_said ms fit.1)
   ends_said (No x part c ∷ ms) fit = step (No x part c) ms (at_no x part c ms fit.0.0 fit.0.1) (ends_said ms fit.1)

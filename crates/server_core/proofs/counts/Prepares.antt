@@ -19,14 +19,14 @@ use Rattle.deneva_base.proofs.Membership.{attempt_tells}
 use Rattle.server_core.specs.declared.messages.Msg.{Msg}
 use Rattle.server_core.specs.declared.messages.Msg.TheVariants.{Start, Ask, Granted, Refused, Prepare, Yes, No, Commit, Abort, Done, Undone}
 use Rattle.server_core.specs.declared.messages.Mail.{Mail}
-use Rattle.server_core.specs.Setting.{Setting, parts_of, rule_at, homes, participants}
+use Rattle.server_core.specs.Setting.{Setting, partitions_of, rule_at, homes, participants}
 use Rattle.deneva_base.specs.declared.keys.Access.{Access}
 use Rattle.txn_program.specs.declared.effects.Effect.{Effect}
 use Rattle.server_core.specs.Replies.{Reply, grants_for, votes_for, closes_for, all_voted, all_closed}
 use Rattle.server_core.specs.declared.ballots.Ballot.{Ballot}
 use Rattle.txn_program.specs.Transactions.{numbers_below}
 use Rattle.deneva_base.specs.Partitions.{partition_of}
-use Rattle.server_core.specs.Coordinator.{told, first_no, decision, coordinator, next_ask, next_start, mail_start, prepare_to, effect_of, to_all, bound_of, asked_parts, overs, polled}
+use Rattle.server_core.specs.Coordinator.{told, first_no, decision, coordinator, next_ask, next_start, mail_start, prepare_to, effect_of, to_all, bound_of, asked_partitions, overs, polled}
 use Rattle.server_core.specs.Participant.{calls, participant, answer_mails, vote_mail, mail_home}
 use Rattle.server_core.specs.Voting.{says}
 use Rattle.server_core.specs.Stamps.{stamp_from, stamped}
@@ -125,7 +125,7 @@ module _ (s : Setting) (p : ℕ) (who : Attempt) (q : ℕ) where
   others : (m : Msg) (ms : List Msg) → (grants_for who (m ∷ ms) ≡ grants_for who ms) → ((x : Attempt) → m ≡ Start x → ⊥) → ((x : Attempt) (k : Key) (r : Row) (v : Number) (b : ℕ) → m ≡ Granted x k r v b → ⊥) → count (prepares who q) (coordinator s p m ms) ≡ 0
   others (Start x) ms same start grant = absurd (start x refl)
   others (Granted x k r v b) ms same start grant = absurd (grant x k r v b refl)
-  others (Refused x key cause) ms same start grant = all_count (Abort x) (asked_parts s ms x) refl
+  others (Refused x key cause) ms same start grant = all_count (Abort x) (asked_partitions s ms x) refl
   others (Yes x part lo hi) ms same start grant = polls x (record { part = part; vote = VotesYes lo hi } ∷ votes_for x ms)
   others (No x part cause) ms same start grant = polls x (record { part = part; vote = VotesNo cause } ∷ votes_for x ms)
   others (Done x part) ms same start grant = if_none (all_closed (part ∷ closes_for x ms) (told s ms x)) (next_start s p (overs s ms)) (starts_none (slice_get (homes s p) (s.limit + overs s ms)))
@@ -137,12 +137,12 @@ module _ (s : Setting) (p : ℕ) (who : Attempt) (q : ℕ) where
   split : (m : Msg) (ms : List Msg) (rest : List Mail) → count (prepares who q) (says s p (m ∷ ms) ++ rest) ≡ count (prepares who q) (coordinator s p m ms) + count (prepares who q) rest
   split m ms rest = omega (arith, count-append (prepares who q) (says s p (m ∷ ms)) rest, count-append (prepares who q) (coordinator s p m ms) (participant s p m ms), by_participant s p who q m ms)
 
-  at_none : (as' : List Access) → 0 ≡ cond (eqb 0 (length as')) (occurs q (parts_of s.parts as')) 0
+  at_none : (as' : List Access) → 0 ≡ cond (eqb 0 (length as')) (occurs q (partitions_of s.parts as')) 0
   at_none [] = rw (no_parts s.parts)
   at_none (a ∷ as') = grind (arith, nat_tests)
 
   at_start : (x : Attempt) (stamp : ℕ) (as' : List Access) → s.accesses x.txn ≡ as' → count (prepares who q) (next_ask s p x stamp [] (slice_get as' 0)) ≡ 0
-  at_start x stamp [] e = next_counts x stamp [] None ∙ cond_zero (attempt_eq x who) (occurs q (participants s x)) (ap (λ l. occurs q (parts_of s.parts l)) e ∙ ap (occurs q) (no_parts s.parts))
+  at_start x stamp [] e = next_counts x stamp [] None ∙ cond_zero (attempt_eq x who) (occurs q (participants s x)) (ap (λ l. occurs q (partitions_of s.parts l)) e ∙ ap (occurs q) (no_parts s.parts))
     where
       cond_zero : (b : Bool) (n : ℕ) → n ≡ 0 → cond b n 0 ≡ 0
       cond_zero true n e = e

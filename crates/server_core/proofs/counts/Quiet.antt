@@ -22,7 +22,7 @@ use Rattle.server_core.specs.Setting.{Setting, rule_at, homes, participants}
 use Rattle.deneva_base.specs.declared.keys.Access.{Access}
 use Rattle.server_core.specs.Replies.{Reply, grants_for, votes_for, closes_for, all_voted, all_closed}
 use Rattle.server_core.specs.declared.ballots.Ballot.{Ballot}
-use Rattle.server_core.specs.Coordinator.{told, first_no, decision, coordinator, next_ask, next_start, mail_start, prepare_to, effect_of, to_all, bound_of, asked_parts, overs, polled, greatest_lo, least_hi}
+use Rattle.server_core.specs.Coordinator.{told, first_no, decision, coordinator, next_ask, next_start, mail_start, prepare_to, effect_of, to_all, bound_of, asked_partitions, overs, polled, greatest_lo, least_hi}
 use Rattle.server_core.specs.Participant.{calls, participant, answer_mails, vote_mail, mail_home, wake_mails}
 use Rattle.server_core.specs.Voting.{says}
 use Rattle.server_core.specs.Stamps.{stamp_from, stamped}
@@ -130,7 +130,7 @@ module _ (s : Setting) (p q : ℕ) (t : Msg → Bool) where
   pub none_coordinator : NoAsks t → NoEnds t → NoStarts t → (m : Msg) (ms : List Msg) → count (sent_to q t) (coordinator s p m ms) ≡ 0
   none_coordinator a e n (Start x) ms = none_next a x (stamp_from s p (Start x ∷ ms) (stamped s x)) [] (slice_get (s.accesses x.txn) 0)
   none_coordinator a e n (Granted x key row version bound) ms = none_next a x (stamp_from s p ms (stamped s x)) (reverse (record { row = row; bound = bound; key = key } ∷ grants_for x ms)) (slice_get (s.accesses x.txn) (suc (length (grants_for x ms))))
-  none_coordinator a e n (Refused x key cause) ms = none_all (Abort x) (asked_parts s ms x) (e.abort x)
+  none_coordinator a e n (Refused x key cause) ms = none_all (Abort x) (asked_partitions s ms x) (e.abort x)
   none_coordinator a e n (Yes x part lo hi) ms = none_polled e x (record { part = part; vote = VotesYes lo hi } ∷ votes_for x ms)
   none_coordinator a e n (No x part cause) ms = none_polled e x (record { part = part; vote = VotesNo cause } ∷ votes_for x ms)
   none_coordinator a e n (Done x part) ms = none_done n x part ms
@@ -164,7 +164,7 @@ module _ (s : Setting) (p q : ℕ) (t : Msg → Bool) where
   pub none_late : NoEnds t → NoStarts t → (m : Msg) (ms : List Msg) → ((x : Attempt) → m ≡ Start x → ⊥) → ((x : Attempt) (k : Key) (r : Row) (v : Number) (b : ℕ) → m ≡ Granted x k r v b → ⊥) → count (sent_to q t) (coordinator s p m ms) ≡ 0
   none_late e n (Start x) ms start grant = absurd (start x refl)
   none_late e n (Granted x k r v b) ms start grant = absurd (grant x k r v b refl)
-  none_late e n (Refused x key cause) ms start grant = none_all (Abort x) (asked_parts s ms x) (e.abort x)
+  none_late e n (Refused x key cause) ms start grant = none_all (Abort x) (asked_partitions s ms x) (e.abort x)
   none_late e n (Yes x part lo hi) ms start grant = none_polled e x (record { part = part; vote = VotesYes lo hi } ∷ votes_for x ms)
   none_late e n (No x part cause) ms start grant = none_polled e x (record { part = part; vote = VotesNo cause } ∷ votes_for x ms)
   none_late e n (Done x part) ms start grant = none_done n x part ms

@@ -15,7 +15,7 @@ use Rattle.server_core.specs.declared.messages.Msg.TheVariants.{Start, Ask, Gran
 use Rattle.server_core.specs.declared.messages.Mail.{Mail}
 use Rattle.server_core.specs.Setting.{Setting, homes, take_first}
 use Rattle.server_core.specs.Replies.{grants_for, votes_for, closes_for, started_for, all_closed}
-use Rattle.server_core.specs.Coordinator.{told, coordinator, next_start, mail_start, overs, asked_parts}
+use Rattle.server_core.specs.Coordinator.{told, coordinator, next_start, mail_start, overs, asked_partitions}
 use Rattle.server_core.specs.Voting.{says}
 use Rattle.server_core.specs.Stamps.{stamp_from, stamped}
 use Rattle.server_core.specs.VotingFits.{Suits, AllFit, IsAsking, IsAborted, Decides, AllUndone, earlier_turn}
@@ -176,7 +176,7 @@ module _ (s : Setting) (p : ℕ) (who : Attempt) where
     again_said (Start x ∷ ms) fit = kept (Start x) ms fit.0.0 fit.0.1 (none_next s p p (is_start who) asks x (stamp_from s p (Start x ∷ ms) (stamped s x)) [] (slice_get (s.accesses x.txn) 0)) (again_said ms fit.1)
     again_said (Granted x k r w b ∷ ms) fit =
         kept (Granted x k r w b) ms fit.0.0 fit.0.1 (none_next s p p (is_start who) asks x (stamp_from s p ms (stamped s x)) (reverse (record { row = r; bound = b; key = k } ∷ grants_for x ms)) (slice_get (s.accesses x.txn) (suc (length (grants_for x ms))))) (again_said ms fit.1)
-    again_said (Refused x k c ∷ ms) fit = kept (Refused x k c) ms fit.0.0 fit.0.1 (none_all s p p (is_start who) (Abort x) (asked_parts s ms x) refl) (again_said ms fit.1)
+    again_said (Refused x k c ∷ ms) fit = kept (Refused x k c) ms fit.0.0 fit.0.1 (none_all s p p (is_start who) (Abort x) (asked_partitions s ms x) refl) (again_said ms fit.1)
     again_said (Yes x part lo hi ∷ ms) fit = kept (Yes x part lo hi) ms fit.0.0 fit.0.1 (none_polled s p p (is_start who) ends x (record { part = part; vote = VotesYes lo hi } ∷ votes_for x ms)) (again_said ms fit.1)
     again_said (No x part c ∷ ms) fit = kept (No x part c) ms fit.0.0 fit.0.1 (none_polled s p p (is_start who) ends x (record { part = part; vote = VotesNo c } ∷ votes_for x ms)) (again_said ms fit.1)
     again_said (Done x part ∷ ms) fit =
@@ -287,7 +287,7 @@ module _ (s : Setting) (p : ℕ) (who : Attempt) (first : who.turn ≡ 1) where
   firsts_said (Start x ∷ ms) fit = step (Start x) ms (omega (arith, none_next s p p (is_start who) (asks s p who) x (stamp_from s p (Start x ∷ ms) (stamped s x)) [] (slice_get (s.accesses x.txn) 0))) (firsts_said ms fit.1)
   firsts_said (Granted x k r w b ∷ ms) fit =
       step (Granted x k r w b) ms (omega (arith, none_next s p p (is_start who) (asks s p who) x (stamp_from s p ms (stamped s x)) (reverse (record { row = r; bound = b; key = k } ∷ grants_for x ms)) (slice_get (s.accesses x.txn) (suc (length (grants_for x ms)))))) (firsts_said ms fit.1)
-  firsts_said (Refused x k c ∷ ms) fit = step (Refused x k c) ms (omega (arith, none_all s p p (is_start who) (Abort x) (asked_parts s ms x) refl)) (firsts_said ms fit.1)
+  firsts_said (Refused x k c ∷ ms) fit = step (Refused x k c) ms (omega (arith, none_all s p p (is_start who) (Abort x) (asked_partitions s ms x) refl)) (firsts_said ms fit.1)
   firsts_said (Yes x part lo hi ∷ ms) fit = step (Yes x part lo hi) ms (omega (arith, none_polled s p p (is_start who) (ends s p who) x (record { part = part; vote = VotesYes lo hi } ∷ votes_for x ms))) (firsts_said ms fit.1)
   firsts_said (No x part c ∷ ms) fit = step (No x part c) ms (omega (arith, none_polled s p p (is_start who) (ends s p who) x (record { part = part; vote = VotesNo c } ∷ votes_for x ms))) (firsts_said ms fit.1)
   firsts_said (m ∷ ms) fit = step m ms (omega arith) (firsts_said ms fit.1)

@@ -16,14 +16,14 @@ use Rattle.server_core.specs.declared.messages.Msg.TheVariants.{Start, Ask, Gran
 use Rattle.server_core.specs.declared.messages.Mail.{Mail}
 use Rattle.server_core.specs.declared.messages.Entry.{Entry}
 use Rattle.server_core.specs.Calvin as ordered
-use Rattle.server_core.specs.Coordinator.{told, first_no, decision, coordinator, next_ask, ask_of, next_start, mail_start, prepare_to, effect_of, to_all, bound_of, asked_parts, overs, polled}
+use Rattle.server_core.specs.Coordinator.{told, first_no, decision, coordinator, next_ask, ask_of, next_start, mail_start, prepare_to, effect_of, to_all, bound_of, asked_partitions, overs, polled}
 use Rattle.server_core.specs.GlobalOrder.{batch, epochs}
 use Rattle.server_core.specs.CalvinScheduler.{is_finished}
 use Rattle.server_core.specs.Participant.{calls, participant, answer_mails, vote_mail, mail_home, wake_mails}
 use Rattle.server_core.specs.Replies.{Reply, grants_for, votes_for, closes_for, all_voted, all_closed}
 use Rattle.server_core.specs.declared.ballots.Ballot.{Ballot}
 use Rattle.server_core.specs.Runs.{Saying, heard, Reaches}
-use Rattle.server_core.specs.Setting.{Setting, homes, parts_of, parts_for, rule_at, take_first}
+use Rattle.server_core.specs.Setting.{Setting, homes, partitions_of, participants_for, rule_at, take_first}
 use Rattle.server_core.specs.Stamps.{stamp_from, stamped}
 use Rattle.server_core.specs.Voting.{says, opening, first_starts}
 use Rattle.server_core.proofs.lists.Parts.{home_below, part_below, parts_from}
@@ -46,7 +46,7 @@ abbrev pub Between : ℕ → Mail → Type 0
 Between parts x = (x.from < parts) × (x.to < parts)
 
 module _ (s : Setting) (one : 1 ≤ s.parts) where
-  access_below : (as' : List Access) (q : ℕ) → IsIn q (parts_of s.parts as') → q < s.parts
+  access_below : (as' : List Access) (q : ℕ) → IsIn q (partitions_of s.parts as') → q < s.parts
   access_below as' q i = let a = parts_from s.parts q as' i in subst (λ n. n < s.parts) a.2 (part_below a.0.key s.parts one)
 
   each : {A : Type 0} (f : A → Mail) (as' : List A) → ((a : A) → IsIn a as' → Between s.parts (f a)) → (x : Mail) → IsIn x (map f as') → Between s.parts x
@@ -65,17 +65,17 @@ module _ (s : Setting) (one : 1 ≤ s.parts) where
     ask_below : (who : Attempt) (stamp : ℕ) (rs : List Reply) (o : Option Access) (x : Mail) → IsIn x (next_ask s p who stamp rs o) → Between s.parts x
     ask_below who stamp rs (Some a) x i = single (ask_of s p who stamp a) (here, part_below a.key s.parts one) x i
     ask_below who stamp rs None x i =
-        each (prepare_to s p who (bound_of rs) (effect_of s who.txn rs)) (parts_of s.parts (s.accesses who.txn)) (λ q j. (here, access_below (s.accesses who.txn) q j)) x i
+        each (prepare_to s p who (bound_of rs) (effect_of s who.txn rs)) (partitions_of s.parts (s.accesses who.txn)) (λ q j. (here, access_below (s.accesses who.txn) q j)) x i
 
     start_below : (o : Option TxnId) (x : Mail) → IsIn x (mail_start p o) → Between s.parts x
     start_below None x i = absurd i
     start_below (Some y) x i = single (record { from = p; to = p; msg = Start (record { txn = y; turn = 1 }) }) (here, here) x i
 
     polled_below : (who : Attempt) (bs : List Ballot) (x : Mail) → IsIn x (polled s p who bs) → Between s.parts x
-    polled_below who bs x i = go (all_voted bs (parts_of s.parts (s.accesses who.txn))) i
+    polled_below who bs x i = go (all_voted bs (partitions_of s.parts (s.accesses who.txn))) i
       where
-        go : (b : Bool) → IsIn x (cond b (to_all p (decision who bs (first_no None bs)) (parts_of s.parts (s.accesses who.txn))) []) → Between s.parts x
-        go true j = all_below (decision who bs (first_no None bs)) (parts_of s.parts (s.accesses who.txn)) (λ q k. access_below (s.accesses who.txn) q k) x j
+        go : (b : Bool) → IsIn x (cond b (to_all p (decision who bs (first_no None bs)) (partitions_of s.parts (s.accesses who.txn))) []) → Between s.parts x
+        go true j = all_below (decision who bs (first_no None bs)) (partitions_of s.parts (s.accesses who.txn)) (λ q k. access_below (s.accesses who.txn) q k) x j
         go false j = absurd j
 
     coordinator_below : (m : Msg) (ms : List Msg) (x : Mail) → IsIn x (coordinator s p m ms) → Between s.parts x
@@ -83,7 +83,7 @@ module _ (s : Setting) (one : 1 ≤ s.parts) where
     coordinator_below (Granted who key row version bound) ms x i =
         ask_below who (stamp_from s p ms (stamped s who)) (reverse (record { row = row; bound = bound; key = key } ∷ grants_for who ms)) (slice_get (s.accesses who.txn) (suc (length (grants_for who ms)))) x i
     coordinator_below (Refused who key cause) ms x i =
-        all_below (Abort who) (asked_parts s ms who) (λ q j. access_below (take_first (suc (length (grants_for who ms))) (s.accesses who.txn)) q j) x i
+        all_below (Abort who) (asked_partitions s ms who) (λ q j. access_below (take_first (suc (length (grants_for who ms))) (s.accesses who.txn)) q j) x i
     coordinator_below (Yes who part lo hi) ms x i = polled_below who (record { part = part; vote = VotesYes lo hi } ∷ votes_for who ms) x i
     coordinator_below (No who part cause) ms x i = polled_below who (record { part = part; vote = VotesNo cause } ∷ votes_for who ms) x i
     coordinator_below (Done who part) ms x i = go (all_closed (part ∷ closes_for who ms) (told s ms who)) i
@@ -132,7 +132,7 @@ module _ (s : Setting) (one : 1 ≤ s.parts) where
     ready_below : (m : Msg) (ms : List Msg) (x : Mail) → IsIn x (ordered.ready_mails s p m ms) → Between s.parts x
     ready_below m ms x i =
         let n = flat_in (ordered.rows_mails s p (m ∷ ms)) x (ordered.became_ready s p m ms) i in
-        all_below _ (parts_for s n.0) (λ q j. access_below (s.accesses n.0) q j) x n.2
+        all_below _ (participants_for s n.0) (λ q j. access_below (s.accesses n.0) q j) x n.2
 
     perhaps : (b : Bool) (y : Mail) → Between s.parts y → (x : Mail) → IsIn x (cond b (y ∷ []) []) → Between s.parts x
     perhaps true y h x i = single y h x i

@@ -6,7 +6,7 @@ use Rattle.std.proofs.lemmas.Bool.Decides.{nat_tests, eqb_tells}
 use Rattle.deneva_base.specs.declared.keys.Key.{Key}
 use Rattle.deneva_base.specs.Lists.{IsIn}
 use Rattle.deneva_base.proofs.Membership.{in_left, in_right, in_filter, filter_in, any_found, key_tells}
-use Rattle.server_core.specs.Setting.{Setting, home, home_in, parts_of}
+use Rattle.server_core.specs.Setting.{Setting, home, home_in, partitions_of}
 use Rattle.deneva_base.specs.declared.keys.Access.{Access}
 use Rattle.txn_program.specs.Transactions.{numbers_below}
 use Rattle.deneva_base.specs.Partitions.{partition_of}
@@ -24,7 +24,7 @@ part_below k parts h = go (eqb k.table 0)
     go true = omega arith
     go false = omega arith
 
-pub parts_in : (parts : ℕ) (key : Key) (as' : List Access) → 1 ≤ parts → 1 ≤ keys_in key as' → IsIn (partition_of key parts) (parts_of parts as')
+pub parts_in : (parts : ℕ) (key : Key) (as' : List Access) → 1 ≤ parts → 1 ≤ keys_in key as' → IsIn (partition_of key parts) (partitions_of parts as')
 parts_in parts key as' one h =
     in_filter (λ p. list_any (λ (x : Access). eqb (partition_of x.key parts) p) as') (partition_of key parts) (numbers_below parts) (in_below (partition_of key parts) parts (part_below key parts one)) (any as' h)
   where
@@ -43,7 +43,7 @@ parts_in parts key as' one h =
         later true e = refl
         later false e = e
 
-pub parts_from : (parts q : ℕ) (as' : List Access) → IsIn q (parts_of parts as') → (a : Access) × IsIn a as' × (partition_of a.key parts ≡ q)
+pub parts_from : (parts q : ℕ) (as' : List Access) → IsIn q (partitions_of parts as') → (a : Access) × IsIn a as' × (partition_of a.key parts ≡ q)
 parts_from parts q as' i =
     let f = filter_in (λ p. list_any (λ (x : Access). eqb (partition_of x.key parts) p) as') q (numbers_below parts) i in
     let a = any_found (λ (x : Access). eqb (partition_of x.key parts) q) as' f.1 in

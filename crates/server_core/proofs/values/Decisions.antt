@@ -18,7 +18,7 @@ use Rattle.server_core.specs.declared.messages.Mail.{Mail}
 use Rattle.server_core.specs.Setting.{Setting, participants}
 use Rattle.server_core.specs.Replies.{grants_for, votes_for, refused_for, started_for, all_voted}
 use Rattle.server_core.specs.declared.ballots.Ballot.{Ballot}
-use Rattle.server_core.specs.Coordinator.{decision, first_no, no_in, lo_of, hi_of, greatest_lo, least_hi, to_all, polled, coordinator, asked_parts}
+use Rattle.server_core.specs.Coordinator.{decision, first_no, no_in, lo_of, hi_of, greatest_lo, least_hi, to_all, polled, coordinator, asked_partitions}
 use Rattle.server_core.specs.Voting.{says}
 use Rattle.server_core.specs.Participant.{participant}
 use Rattle.server_core.specs.Stamps.{stamp_from, stamped}
@@ -181,7 +181,7 @@ module _ (s : Setting) (p : ℕ) where
   commit_of who number (Granted y k r w b) ms f fit x e i =
       absurd (not_in (is_commit who) (coordinator s p (Granted y k r w b) ms) x (subst (λ z. is_commit who z ≡ true) (sym e) (itself who)) i
       (none_next s p x.to (is_commit who) (commit_asks who) y (stamp_from s p ms (stamped s y)) (reverse (record { row = r; bound = b; key = k } ∷ grants_for y ms)) (slice_get (s.accesses y.txn) (suc (length (grants_for y ms))))))
-  commit_of who number (Refused y k c) ms f fit x e i = absurd (not_in (is_commit who) (coordinator s p (Refused y k c) ms) x (subst (λ z. is_commit who z ≡ true) (sym e) (itself who)) i (none_all s p x.to (is_commit who) (Abort y) (asked_parts s ms y) refl))
+  commit_of who number (Refused y k c) ms f fit x e i = absurd (not_in (is_commit who) (coordinator s p (Refused y k c) ms) x (subst (λ z. is_commit who z ≡ true) (sym e) (itself who)) i (none_all s p x.to (is_commit who) (Abort y) (asked_partitions s ms y) refl))
   commit_of who number (Done y part) ms f fit x e i = absurd (not_in (is_commit who) (coordinator s p (Done y part) ms) x (subst (λ z. is_commit who z ≡ true) (sym e) (itself who)) i (none_done s p x.to (is_commit who) (commit_starts who) y part ms))
   commit_of who number (Undone y part) ms f fit x e i = absurd (not_in (is_commit who) (coordinator s p (Undone y part) ms) x (subst (λ z. is_commit who z ≡ true) (sym e) (itself who)) i (none_undone s p x.to (is_commit who) (commit_starts who) y part ms))
   commit_of who number m ms f fit x e i = absurd i
@@ -221,7 +221,7 @@ module _ (s : Setting) (p : ℕ) where
       let is = abort_means y who (votes_for y (No y part c ∷ ms)) (first_no None (votes_for y (No y part c ∷ ms))) (d.0.1 ∙ e) in
       inr (subst (λ z. Decides s (No y part c ∷ ms) z (Abort who)) is (d.0.0, d.0.1 ∙ e))
   abort_of who (Refused y k c) ms f fit x e i =
-      let n = in_map (λ q. record { from = p; to = q; msg = Abort y }) x (asked_parts s ms y) i in
+      let n = in_map (λ q. record { from = p; to = q; msg = Abort y }) x (asked_partitions s ms y) i in
       let same : Abort y ≡ Abort who = sym (ap (λ (z : Mail). z.msg) n.2) ∙ e in
       let is : y ≡ who = cc in
       inl (⊎_elim (λ t. rw t.0) (λ g. absurd (g.1 is)) (attempt_tells y who))

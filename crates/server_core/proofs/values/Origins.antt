@@ -23,7 +23,7 @@ use Rattle.deneva_base.specs.declared.keys.Access.{Access}
 use Rattle.server_core.specs.Replies.{Reply, grants_for, votes_for, refused_for, started_for, closes_for, all_voted, all_closed}
 use Rattle.server_core.specs.declared.ballots.Ballot.{Ballot}
 use Rattle.deneva_base.specs.Partitions.{partition_of}
-use Rattle.server_core.specs.Coordinator.{told, first_no, decision, coordinator, next_ask, next_start, mail_start, prepare_to, effect_of, to_all, bound_of, asked_parts, overs, polled, greatest_lo, least_hi, reads_of}
+use Rattle.server_core.specs.Coordinator.{told, first_no, decision, coordinator, next_ask, next_start, mail_start, prepare_to, effect_of, to_all, bound_of, asked_partitions, overs, polled, greatest_lo, least_hi, reads_of}
 use Rattle.server_core.specs.Participant.{calls, participant, answer_mails, vote_mail, mail_home, wake_mails}
 use Rattle.server_core.specs.Voting.{says}
 use Rattle.server_core.specs.Stamps.{stamp_from, stamped}
@@ -162,7 +162,7 @@ module _ (s : Setting) (v : Valid s) (p : ℕ) where
   proper_coordinator (Start who) ms f before fit x i = proper_next who (stamp_from s p (Start who ∷ ms) (stamped s who)) [] 0 (slice_get (s.accesses who.txn) 0) fit.1 refl x i
   proper_coordinator (Granted who key row version bound) ms f before fit x i =
       proper_next who (stamp_from s p ms (stamped s who)) (reverse (record { row = row; bound = bound; key = key } ∷ grants_for who ms)) (suc (length (grants_for who ms))) (slice_get (s.accesses who.txn) (suc (length (grants_for who ms)))) fit.0 refl x i
-  proper_coordinator (Refused who key cause) ms f before fit x i = proper_all (Abort who) (asked_parts s ms who) (λ q. fit.0) x i
+  proper_coordinator (Refused who key cause) ms f before fit x i = proper_all (Abort who) (asked_partitions s ms who) (λ q. fit.0) x i
   proper_coordinator (Yes who part lo hi) ms f before fit x i = proper_polled who (record { part = part; vote = VotesYes lo hi } ∷ votes_for who ms) fit.0 x i
   proper_coordinator (No who part cause) ms f before fit x i = proper_polled who (record { part = part; vote = VotesNo cause } ∷ votes_for who ms) fit.0 x i
   proper_coordinator (Done who part) ms f before fit x i = proper_if (all_closed (part ∷ closes_for who ms) (told s ms who)) (next_start s p (overs s ms)) x (proper_start (s.limit + overs s ms) (slice_get (homes s p) (s.limit + overs s ms)) refl x) i

@@ -12,7 +12,7 @@ use Rattle.server_core.specs.declared.messages.Msg.{Msg}
 use Rattle.server_core.specs.declared.messages.Msg.TheVariants.{Start, Ask, Granted, Refused, Commit, Done, Undone}
 use Rattle.server_core.specs.Setting.{Setting, participants}
 use Rattle.server_core.specs.Replies.{closes_for, started_for, all_closed}
-use Rattle.server_core.specs.Coordinator.{told, asked_parts}
+use Rattle.server_core.specs.Coordinator.{told, asked_partitions}
 use Rattle.server_core.specs.VotingFits.{Suits, AllFit, IsAsking, IsAborted, Decides}
 use Rattle.server_core.specs.Proper.{ids_in}
 use Rattle.server_core.proofs.values.Origins.{aborted_started}
@@ -79,7 +79,7 @@ module _ (s : Setting) (p : ℕ) where
       now : all_closed (part ∷ closes_for who ms) (told s ms who) ≡ true → OverBy who.txn (Done who part ∷ ms)
       now e =
           let d = fit.0.1.4 in
-          let is : told s ms who ≡ participants s who = ap (λ r. cond r (asked_parts s ms who) (participants s who)) d.1.0.0.1 in
+          let is : told s ms who ≡ participants s who = ap (λ r. cond r (asked_partitions s ms who) (participants s who)) d.1.0.0.1 in
           record {
             who = who;
             own = refl;
@@ -152,7 +152,7 @@ module _ (s : Setting) (p : ℕ) where
       d = fit.0.1.4.1
 
       fresh : who.txn ≡ x → IsIn x (over_ids s ms) → ⊥
-      fresh e i = no_close one who part ms fit.1 d.0.0.0 (subst (IsIn part) (sym (ap (λ r. cond r (asked_parts s ms who) (participants s who)) d.0.0.1)) fit.0.1.2) fit.0.1.3 (subst (λ y. OverBy y ms) (sym e) (over_by x ms fit.1 i))
+      fresh e i = no_close one who part ms fit.1 d.0.0.0 (subst (IsIn part) (sym (ap (λ r. cond r (asked_partitions s ms who) (participants s who)) d.0.0.1)) fit.0.1.2) fit.0.1.3 (subst (λ y. OverBy y ms) (sym e) (over_by x ms fit.1 i))
 
       go : (b : Bool) → ids_in x (over_ids s ms) ≤ 1 → ids_in x (cond b (who.txn ∷ over_ids s ms) (over_ids s ms)) ≤ 1
       go false h = h

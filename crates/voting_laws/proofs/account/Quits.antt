@@ -16,13 +16,13 @@ use Rattle.server_core.specs.declared.messages.Msg.{Msg}
 use Rattle.server_core.specs.declared.messages.Msg.TheVariants.{Start, Ask, Granted, Commit, Abort, Done, Undone}
 use Rattle.server_core.specs.declared.messages.Mail.{Mail}
 use Rattle.server_core.specs.declared.messages.Entry.{Entry}
-use Rattle.server_core.specs.Setting.{Setting, home, homes, home_in, parts_of, take_first, loaded_at, rule_at, participants}
+use Rattle.server_core.specs.Setting.{Setting, home, homes, home_in, partitions_of, take_first, loaded_at, rule_at, participants}
 use Rattle.deneva_base.specs.declared.keys.Access.{Access}
 use Rattle.server_core.specs.Replies.{grants_for, votes_for, refused_for, closes_for, started_for, all_voted, all_closed}
 use Rattle.server_core.specs.declared.ballots.Ballot.{Ballot}
 use Rattle.txn_program.specs.Transactions.{numbers_below}
 use Rattle.deneva_base.specs.Partitions.{partition_of}
-use Rattle.server_core.specs.Coordinator.{told, asked_parts, first_no, decision, greatest_lo, least_hi, overs}
+use Rattle.server_core.specs.Coordinator.{told, asked_partitions, first_no, decision, greatest_lo, least_hi, overs}
 use Rattle.server_core.specs.Stamps.{stamp_from, stamped}
 use Rattle.server_core.specs.Participant.{calls, mail_home}
 use Rattle.server_core.specs.Voting.{says, opening, first_starts}
@@ -170,7 +170,7 @@ module _ (s : Setting) (v : Valid s) (H : List Entry) (g : Good s H []) where
     n = length (grants_for who ms)
 
     -- each end that was said was handled, of one kind
-    end_at : (q : ℕ) → 1 ≤ cond (refused_for who ms) (occurs q (asked_parts s ms who)) 0 + cond (all_voted (votes_for who ms) (participants s who)) (occurs q (participants s who)) 0 → ((k : Number) × IsIn (Commit who k) (heard q H)) ⊎ IsIn (Abort who) (heard q H)
+    end_at : (q : ℕ) → 1 ≤ cond (refused_for who ms) (occurs q (asked_partitions s ms who)) 0 + cond (all_voted (votes_for who ms) (participants s who)) (occurs q (participants s who)) 0 → ((k : Number) × IsIn (Commit who k) (heard q H)) ⊎ IsIn (Abort who) (heard q H)
     end_at q h =
         let m = find_msg (is_end who) (heard q H) (omega (arith, h, end_ledger s v H [] g who q)) in
         kind m.0 m.1 m.2
@@ -191,10 +191,10 @@ module _ (s : Setting) (v : Valid s) (H : List Entry) (g : Good s H []) where
     all_undone_by h = and_true (started_for who ms) (all_closed (undones_for who ms) (told s ms who)) st (all_there (undones_for who ms) (told s ms who) (λ q i. undone_at q (h q i)))
 
     if_refused : refused_for who ms ≡ true → all_undone s H who ≡ true
-    if_refused r = all_undone_by (λ q i. ⊎_elim (λ c. absurd (no_commit q (inl r) c)) (λ a. a) (end_at q (told_counts q (subst (λ b. IsIn q (cond b (asked_parts s ms who) (participants s who))) r i))))
+    if_refused r = all_undone_by (λ q i. ⊎_elim (λ c. absurd (no_commit q (inl r) c)) (λ a. a) (end_at q (told_counts q (subst (λ b. IsIn q (cond b (asked_partitions s ms who) (participants s who))) r i))))
       where
-        told_counts : (q : ℕ) → IsIn q (asked_parts s ms who) → 1 ≤ cond (refused_for who ms) (occurs q (asked_parts s ms who)) 0 + cond (all_voted (votes_for who ms) (participants s who)) (occurs q (participants s who)) 0
-        told_counts q i = rw r (omega (arith, in_occurs q (asked_parts s ms who) i))
+        told_counts : (q : ℕ) → IsIn q (asked_partitions s ms who) → 1 ≤ cond (refused_for who ms) (occurs q (asked_partitions s ms who)) 0 + cond (all_voted (votes_for who ms) (participants s who)) (occurs q (participants s who)) 0
+        told_counts q i = rw r (omega (arith, in_occurs q (asked_partitions s ms who) i))
 
     if_asking : refused_for who ms ≡ false → n < length acc → (q : ℕ) × (a : Asked) × IsIn a (waits (hist q)) × (a.who ≡ who)
     if_asking r lt = go (slice_get acc n) refl
@@ -248,10 +248,10 @@ module _ (s : Setting) (v : Valid s) (H : List Entry) (g : Good s H []) where
         let polled : HasAll s ms who × (all_voted (votes_for who ms) (participants s who) ≡ true) = ((st, r, full), av) in
         ⊎_elim
         (λ d. inl (and_true (started_for who ms) (all_closed (dones_for who ms) (participants s who)) st (all_there (dones_for who ms) (participants s who) (λ q i. done_at q (⊎_elim (λ c. c) (λ a. absurd (no_abort q d.0 (polled, d.1) a)) (end_at q (counts q av i)))))))
-        (λ d. inr (all_undone_by (λ q i. ⊎_elim (λ c. absurd (no_commit q (inr (polled, d)) c)) (λ a. a) (end_at q (counts q av (subst (λ b. IsIn q (cond b (asked_parts s ms who) (participants s who))) r i))))))
+        (λ d. inr (all_undone_by (λ q i. ⊎_elim (λ c. absurd (no_commit q (inr (polled, d)) c)) (λ a. a) (end_at q (counts q av (subst (λ b. IsIn q (cond b (asked_partitions s ms who) (participants s who))) r i))))))
         (decisions (votes_for who ms) (first_no None (votes_for who ms)))
       where
-        counts : (q : ℕ) → all_voted (votes_for who ms) (participants s who) ≡ true → IsIn q (participants s who) → 1 ≤ cond (refused_for who ms) (occurs q (asked_parts s ms who)) 0 + cond (all_voted (votes_for who ms) (participants s who)) (occurs q (participants s who)) 0
+        counts : (q : ℕ) → all_voted (votes_for who ms) (participants s who) ≡ true → IsIn q (participants s who) → 1 ≤ cond (refused_for who ms) (occurs q (asked_partitions s ms who)) 0 + cond (all_voted (votes_for who ms) (participants s who)) (occurs q (participants s who)) 0
         counts q av i = rw av (omega (arith, in_occurs q (participants s who) i))
 
         done_at : (q : ℕ) → ((k : Number) × IsIn (Commit who k) (heard q H)) → IsIn q (dones_for who ms)
@@ -286,7 +286,7 @@ module _ (s : Setting) (v : Valid s) (H : List Entry) (g : Good s H []) where
             under true h = h
             under false h = absurd (omega (arith, h))
 
-        go : (b : Bool) → IsIn (partition_of key s.parts) (cond b (asked_parts s ms who) (participants s who))
+        go : (b : Bool) → IsIn (partition_of key s.parts) (cond b (asked_partitions s ms who) (participants s who))
         go true = parts_in s.parts key (take_first (suc n) acc) v.parts asked
         go false = parts_in s.parts key acc v.parts (omega (arith, asked, keys_take key (suc n) acc))
 
@@ -367,7 +367,7 @@ module _ (s : Setting) (v : Valid s) (H : List Entry) (g : Good s H []) where
     told_here : (who : Attempt) → IsIn who.txn s.ids → (q : ℕ) × IsIn q (told s (heard (home s who.txn) H) who)
     told_here who i = go (refused_for who (heard (home s who.txn) H)) (s.accesses who.txn) (v.some who.txn i)
       where
-        go : (b : Bool) (as' : List Access) → 1 ≤ length as' → (q : ℕ) × IsIn q (cond b (parts_of s.parts (take_first (suc (length (grants_for who (heard (home s who.txn) H)))) as')) (parts_of s.parts as'))
+        go : (b : Bool) (as' : List Access) → 1 ≤ length as' → (q : ℕ) × IsIn q (cond b (partitions_of s.parts (take_first (suc (length (grants_for who (heard (home s who.txn) H)))) as')) (partitions_of s.parts as'))
         go b [] h = absurd (omega (arith, h))
         go true (a ∷ as') h = (partition_of a.key s.parts, parts_in s.parts a.key (a ∷ take_first (length (grants_for who (heard (home s who.txn) H))) as') v.parts (key_there a.key a.mode (a ∷ take_first (length (grants_for who (heard (home s who.txn) H))) as') (inl refl)))
         go false (a ∷ as') h = (partition_of a.key s.parts, parts_in s.parts a.key (a ∷ as') v.parts (key_there a.key a.mode (a ∷ as') (inl refl)))
@@ -400,7 +400,7 @@ module _ (s : Setting) (v : Valid s) (H : List Entry) (g : Good s H []) where
             let b = and_parts (started_for who (heard (home s who.txn) H)) (all_closed (dones_for who (heard (home s who.txn) H)) (participants s who)) d in
             let c = done_commit s v H [] g who d in
             let dec = (decided s v H [] g who c.1.1 c.1.0 c.1.2).0 in
-            let is : told s (heard (home s who.txn) H) who ≡ participants s who = ap (λ r. cond r (asked_parts s (heard (home s who.txn) H) who) (participants s who)) dec.0.0.1 in
+            let is : told s (heard (home s who.txn) H) who ≡ participants s who = ap (λ r. cond r (asked_partitions s (heard (home s who.txn) H) who) (participants s who)) dec.0.0.1 in
             let e : all_closed (closes_for who (heard (home s who.txn) H)) (told s (heard (home s who.txn) H) who) ≡ true
             = subst (λ l. all_closed (closes_for who (heard (home s who.txn) H)) l ≡ true) (sym is) (all_there (closes_for who (heard (home s who.txn) H)) (participants s who) (λ q i. dones_close who q (heard (home s who.txn) H) (closed_there (dones_for who (heard (home s who.txn) H)) (participants s who) q b.1 i))) in
             (⊎_elim (λ o. o.0) (λ x. absurd (not_both s (heard (home s who.txn) H) who c.1.1 x.0 dec)) (ends e), inl decided_line)

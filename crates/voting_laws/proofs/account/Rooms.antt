@@ -12,7 +12,7 @@ use Rattle.server_core.specs.declared.messages.Mail.{Mail}
 use Rattle.server_core.specs.declared.messages.Entry.{Entry}
 use Rattle.server_core.specs.Setting.{Setting, home, participants}
 use Rattle.server_core.specs.Replies.{closes_for, started_for, all_closed}
-use Rattle.server_core.specs.Coordinator.{told, asked_parts}
+use Rattle.server_core.specs.Coordinator.{told, asked_partitions}
 use Rattle.server_core.specs.VotingFits.{AllFit, IsAborted, Decides}
 use Rattle.server_core.specs.Proper.{Valid}
 use Rattle.server_core.specs.Runs.{heard}
@@ -90,7 +90,7 @@ module _ (s : Setting) (v : Valid s) (H : List Entry) (flight : List Mail) (g : 
 
     over_done : (n : Number) → Decides s (at x) o.who (Commit o.who n) → all_done s H o.who ≡ true
     over_done n d =
-        let is : told s (at x) o.who ≡ participants s o.who = ap (λ r. cond r (asked_parts s (at x) o.who) (participants s o.who)) d.0.0.1 in
+        let is : told s (at x) o.who ≡ participants s o.who = ap (λ r. cond r (asked_partitions s (at x) o.who) (participants s o.who)) d.0.0.1 in
         let all : (started_for o.who (at x) && all_closed (dones_for o.who (at x)) (participants s o.who)) ≡ true
         = and_true (started_for o.who (at x)) (all_closed (dones_for o.who (at x)) (participants s o.who)) over_started
         (all_there (dones_for o.who (at x)) (participants s o.who) (λ q j. ⊎_elim (λ a. a) (λ a. absurd (not_both s (at x) o.who n a d)) (closes_done s (home s x) o.who (at x) (fit_at x) q (closed_there (closes_for o.who (at x)) (told s (at x) o.who) q o.closed.all (subst (IsIn q) (sym is) j))))) in
@@ -134,7 +134,7 @@ module _ (s : Setting) (v : Valid s) (H : List Entry) (flight : List Mail) (g : 
       let b = and_parts (started_for who (at_home s H who)) (all_closed (dones_for who (at_home s H who)) (participants s who)) d in
       let c = done_commit s v H flight g who d in
       let dec = (decided s v H flight g who c.1.1 c.1.0 c.1.2).0 in
-      let is : told s (at_home s H who) who ≡ participants s who = ap (λ r. cond r (asked_parts s (at_home s H who) who) (participants s who)) dec.0.0.1 in
+      let is : told s (at_home s H who) who ≡ participants s who = ap (λ r. cond r (asked_partitions s (at_home s H who) who) (participants s who)) dec.0.0.1 in
       let t = told_some s v H flight g who (at_home s H who) c.0 in
       let cl : all_closed (closes_for who (at_home s H who)) (told s (at_home s H who) who) ≡ true
       = subst (λ l. all_closed (closes_for who (at_home s H who)) l ≡ true) (sym is) (all_there (closes_for who (at_home s H who)) (participants s who) (λ q i. dones_close who q (at_home s H who) (closed_there (dones_for who (at_home s H who)) (participants s who) q b.1 i))) in

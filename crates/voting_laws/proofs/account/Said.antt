@@ -12,9 +12,9 @@ use Rattle.server_core.specs.declared.messages.Msg.{Msg}
 use Rattle.server_core.specs.declared.messages.Msg.TheVariants.{Start, Ask, Prepare, Commit, Abort}
 use Rattle.server_core.specs.declared.messages.Mail.{Mail}
 use Rattle.server_core.specs.declared.messages.Entry.{Entry}
-use Rattle.server_core.specs.Setting.{Setting, home, parts_of, take_first, participants}
+use Rattle.server_core.specs.Setting.{Setting, home, partitions_of, take_first, participants}
 use Rattle.server_core.specs.Replies.{grants_for, votes_for, refused_for, started_for, all_voted}
-use Rattle.server_core.specs.Coordinator.{asked_parts}
+use Rattle.server_core.specs.Coordinator.{asked_partitions}
 use Rattle.server_core.specs.Voting.{says, opening}
 use Rattle.server_core.specs.Proper.{ProperMsg, Valid}
 use Rattle.server_core.specs.Runs.{heard}
@@ -173,7 +173,7 @@ module _ (s : Setting) (v : Valid s) (H : List Entry) (flight : List Mail) (g : 
     prepares_to q = cond (eqb (length (grants_for who ms)) (length (s.accesses who.txn))) (occurs q (participants s who)) 0
 
     abbrev pub ends_to : ℕ → ℕ
-    ends_to q = cond (refused_for who ms) (occurs q (asked_parts s ms who)) 0 + cond (all_voted (votes_for who ms) (participants s who)) (occurs q (participants s who)) 0
+    ends_to q = cond (refused_for who ms) (occurs q (asked_partitions s ms who)) 0 + cond (all_voted (votes_for who ms) (participants s who)) (occurs q (participants s who)) 0
 
     -- a Prepare was said to all participants
     pub prepared_got : prepared s H who ≡ true → (q : ℕ) × (length (grants_for who ms) ≡ length (s.accesses who.txn)) × IsIn q (participants s who)
@@ -219,17 +219,17 @@ module _ (s : Setting) (v : Valid s) (H : List Entry) (flight : List Mail) (g : 
         in_filter (λ r. list_any (λ (x : Mail). ends_of who x.msg && eqb x.to r) (all_mails s H)) q (numbers_below s.parts) (in_below q s.parts below)
         (any_at (λ (x : Mail). ends_of who x.msg && eqb x.to q) m.0 (all_mails s H) m.1 (and_true (ends_of who m.0.msg) (eqb m.0.to q) m.2 (subst (λ r. eqb m.0.to r ≡ true) m.3 (eqb_self m.0.to))))
       where
-        of_part : (as' : List Rattle.deneva_base.specs.declared.keys.Access.Access) → 1 ≤ occurs q (parts_of s.parts as') → q < s.parts
-        of_part as' k = let a = parts_from s.parts q as' (occurs_in q (parts_of s.parts as') k) in subst (λ r. r < s.parts) a.2 (part_below a.0.key s.parts v.parts)
+        of_part : (as' : List Rattle.deneva_base.specs.declared.keys.Access.Access) → 1 ≤ occurs q (partitions_of s.parts as') → q < s.parts
+        of_part as' k = let a = parts_from s.parts q as' (occurs_in q (partitions_of s.parts as') k) in subst (λ r. r < s.parts) a.2 (part_below a.0.key s.parts v.parts)
 
         below : q < s.parts
         below = go (refused_for who ms) refl (all_voted (votes_for who ms) (participants s who)) refl
           where
             go : (a : Bool) → refused_for who ms ≡ a → (b : Bool) → all_voted (votes_for who ms) (participants s who) ≡ b → q < s.parts
-            go true ea b eb = ⊎_elim (λ k. of_part (take_first (suc (length (grants_for who ms))) (s.accesses who.txn)) k) (λ k. of_part (s.accesses who.txn) k) (split b (subst₂ (λ x y. 1 ≤ cond x (occurs q (asked_parts s ms who)) 0 + cond y (occurs q (participants s who)) 0) ea eb h))
+            go true ea b eb = ⊎_elim (λ k. of_part (take_first (suc (length (grants_for who ms))) (s.accesses who.txn)) k) (λ k. of_part (s.accesses who.txn) k) (split b (subst₂ (λ x y. 1 ≤ cond x (occurs q (asked_partitions s ms who)) 0 + cond y (occurs q (participants s who)) 0) ea eb h))
               where
-                split : (b : Bool) → 1 ≤ occurs q (asked_parts s ms who) + cond b (occurs q (participants s who)) 0 → (1 ≤ occurs q (asked_parts s ms who)) ⊎ (1 ≤ occurs q (participants s who))
+                split : (b : Bool) → 1 ≤ occurs q (asked_partitions s ms who) + cond b (occurs q (participants s who)) 0 → (1 ≤ occurs q (asked_partitions s ms who)) ⊎ (1 ≤ occurs q (participants s who))
                 split true k = grind (arith, k)
                 split false k = inl (omega (arith, k))
-            go false ea true eb = let h' : 1 ≤ 0 + occurs q (participants s who) = subst₂ (λ x y. 1 ≤ cond x (occurs q (asked_parts s ms who)) 0 + cond y (occurs q (participants s who)) 0) ea eb h in of_part (s.accesses who.txn) (omega (arith, h'))
-            go false ea false eb = let h' : 1 ≤ 0 + 0 = subst₂ (λ x y. 1 ≤ cond x (occurs q (asked_parts s ms who)) 0 + cond y (occurs q (participants s who)) 0) ea eb h in absurd (omega (arith, h'))
+            go false ea true eb = let h' : 1 ≤ 0 + occurs q (participants s who) = subst₂ (λ x y. 1 ≤ cond x (occurs q (asked_partitions s ms who)) 0 + cond y (occurs q (participants s who)) 0) ea eb h in of_part (s.accesses who.txn) (omega (arith, h'))
+            go false ea false eb = let h' : 1 ≤ 0 + 0 = subst₂ (λ x y. 1 ≤ cond x (occurs q (asked_partitions s ms who)) 0 + cond y (occurs q (participants s who)) 0) ea eb h in absurd (omega (arith, h'))

@@ -15,9 +15,9 @@ use Rattle.server_core.specs.declared.messages.Msg.{Msg}
 use Rattle.server_core.specs.declared.messages.Msg.TheVariants.{Start, Ask, Granted, Refused, Prepare, Yes, No, Commit, Abort, Done, Undone, Tick, Batch, Rows, Finished}
 use Rattle.server_core.specs.declared.messages.Mail.{Mail}
 use Rattle.server_core.specs.declared.messages.Entry.{Entry}
-use Rattle.server_core.specs.Setting.{Setting, home, parts_of, participants}
+use Rattle.server_core.specs.Setting.{Setting, home, partitions_of, participants}
 use Rattle.server_core.specs.Replies.{Ballot, grants_for, votes_for, refused_for, started_for, all_voted}
-use Rattle.server_core.specs.Coordinator.{asked_parts}
+use Rattle.server_core.specs.Coordinator.{asked_partitions}
 use Rattle.server_core.specs.Participant.{calls}
 use Rattle.server_core.specs.Proper.{Valid}
 use Rattle.server_core.specs.Runs.{heard}
@@ -255,7 +255,7 @@ module _ (s : Setting) (v : Valid s) (H : List Entry) (flight : List Mail) (g : 
   ledger_votes q = acc.votes q ∙ ap (λ n. cond (eqb got (length all)) n 0) (many_occurs q (participants s who))
 
   pub ledger_ends : (q : ℕ) → flying flight q (ends_of who) + flying flight p (closes_of who q) + count_msgs (closes_of who q) ms ≡ ends_to s v H flight g who q
-  ledger_ends q = acc.ends q ∙ two (refused_for who ms) (all_voted (votes_for who ms) (participants s who)) (many_occurs q (asked_parts s ms who)) (many_occurs q (participants s who))
+  ledger_ends q = acc.ends q ∙ two (refused_for who ms) (all_voted (votes_for who ms) (participants s who)) (many_occurs q (asked_partitions s ms who)) (many_occurs q (participants s who))
     where
       two : (a b : Bool) {x y z w : ℕ} → x ≡ y → z ≡ w → cond a x 0 + cond b z 0 ≡ cond a y 0 + cond b w 0
       two a b e f = rw (e, f)
@@ -285,8 +285,8 @@ module _ (s : Setting) (v : Valid s) (H : List Entry) (flight : List Mail) (g : 
       go true = refl
       go false = refl
 
-  each_one : (q : ℕ) (as' : List Access) → IsIn q (parts_of s.parts as') → occurs q (parts_of s.parts as') ≡ 1
-  each_one q as' i = omega (arith, once q s.parts as', occurs_there q (parts_of s.parts as') i)
+  each_one : (q : ℕ) (as' : List Access) → IsIn q (partitions_of s.parts as') → occurs q (partitions_of s.parts as') ≡ 1
+  each_one q as' i = omega (arith, once q s.parts as', occurs_there q (partitions_of s.parts as') i)
 
   -- 3. a Prepare was said, and no Commit or Abort
   pub votes : prepared s H who ≡ true → ending s H who ≡ false → Votes s H flight who
@@ -308,7 +308,7 @@ module _ (s : Setting) (v : Valid s) (H : List Entry) (flight : List Mail) (g : 
       some_got : (q : ℕ) → IsIn q (participants s who) → got ≡ length all → 1 ≤ got
       some_got q i full = go all refl i
         where
-          go : (as' : List Access) → all ≡ as' → IsIn q (parts_of s.parts as') → 1 ≤ got
+          go : (as' : List Access) → all ≡ as' → IsIn q (partitions_of s.parts as') → 1 ≤ got
           go [] e j = absurd (no_participant s.parts q j)
           go (b ∷ as') e j = omega (arith, full, ap length e)
 
@@ -321,7 +321,7 @@ module _ (s : Setting) (v : Valid s) (H : List Entry) (flight : List Mail) (g : 
       voted_none : all_voted (votes_for who ms) (participants s who) ≡ true → (q : ℕ) → IsIn q (participants s who) → ⊥
       voted_none e q i =
           let n : ends_to s v H flight g who q ≡ 0 = unending en q in
-          let m : cond (refused_for who ms) (occurs q (asked_parts s ms who)) 0 + occurs q (participants s who) ≡ 0 = subst (λ b. cond (refused_for who ms) (occurs q (asked_parts s ms who)) 0 + cond b (occurs q (participants s who)) 0 ≡ 0) e n in
+          let m : cond (refused_for who ms) (occurs q (asked_partitions s ms who)) 0 + occurs q (participants s who) ≡ 0 = subst (λ b. cond (refused_for who ms) (occurs q (asked_partitions s ms who)) 0 + cond b (occurs q (participants s who)) 0 ≡ 0) e n in
           omega (arith, m, occurs_there q (participants s who) i)
 
       unvoted : (qs : List ℕ) → all_voted (votes_for who ms) qs ≡ false → ((q : ℕ) → IsIn q qs → IsIn q (participants s who)) → (q : ℕ) × IsIn q (participants s who) × (count_msgs (votes_of who q) ms ≡ 0)
@@ -364,7 +364,7 @@ module _ (s : Setting) (v : Valid s) (H : List Entry) (flight : List Mail) (g : 
           no_prepares : got < length all → (r : ℕ) → prepares_to s v H flight g who r ≡ 0
           no_prepares lt r = grind (arith, nat_tests)
       go q h false ea true eb =
-          let h' : 1 ≤ 0 + occurs q (participants s who) = subst (λ z. 1 ≤ cond z (occurs q (asked_parts s ms who)) 0 + occurs q (participants s who)) ea (subst (λ z. 1 ≤ cond (refused_for who ms) (occurs q (asked_parts s ms who)) 0 + cond z (occurs q (participants s who)) 0) eb h) in
+          let h' : 1 ≤ 0 + occurs q (participants s who) = subst (λ z. 1 ≤ cond z (occurs q (asked_partitions s ms who)) 0 + occurs q (participants s who)) ea (subst (λ z. 1 ≤ cond (refused_for who ms) (occurs q (asked_partitions s ms who)) 0 + cond z (occurs q (participants s who)) 0) eb h) in
           let i = occurs_in q (participants s who) (omega (arith, h')) in
           let w = ((phase s v H flight g who).voted q (voted_in (votes_for who ms) (participants s who) q eb i)).0 in
           (w.0, none_awaited w.2, λ r. zero_if (flying flight r (prepares_of who) + flying flight p (votes_of who r)) (λ one. came r one))
@@ -379,7 +379,7 @@ module _ (s : Setting) (v : Valid s) (H : List Entry) (flight : List Mail) (g : 
               positive true h = h
               positive false h = absurd (omega (arith, h))
       go q h false ea false eb =
-          let h' : 1 ≤ 0 + 0 = subst (λ z. 1 ≤ cond z (occurs q (asked_parts s ms who)) 0 + 0) ea (subst (λ z. 1 ≤ cond (refused_for who ms) (occurs q (asked_parts s ms who)) 0 + cond z (occurs q (participants s who)) 0) eb h) in
+          let h' : 1 ≤ 0 + 0 = subst (λ z. 1 ≤ cond z (occurs q (asked_partitions s ms who)) 0 + 0) ea (subst (λ z. 1 ≤ cond (refused_for who ms) (occurs q (asked_partitions s ms who)) 0 + cond z (occurs q (participants s who)) 0) eb h) in
           absurd (omega (arith, h'))
 
   abbrev tolds : List ℕ
@@ -504,15 +504,15 @@ module _ (s : Setting) (v : Valid s) (H : List Entry) (flight : List Mail) (g : 
           unrefused : refused_for who ms ≡ false
           unrefused = off_if (refused_for who ms) (λ r.
               let t = told_some s v H flight g who ms ids in
-              let i : IsIn t.0 (asked_parts s ms who) = subst (λ b. IsIn t.0 (cond b (asked_parts s ms who) (participants s who))) r t.1 in
-              let n : occurs t.0 (asked_parts s ms who) + cond (all_voted (votes_for who ms) (participants s who)) (occurs t.0 (participants s who)) 0 ≡ 0
-              = subst (λ b. cond b (occurs t.0 (asked_parts s ms who)) 0 + cond (all_voted (votes_for who ms) (participants s who)) (occurs t.0 (participants s who)) 0 ≡ 0) r (unending en t.0) in
-              omega (arith, n, occurs_there t.0 (asked_parts s ms who) i))
+              let i : IsIn t.0 (asked_partitions s ms who) = subst (λ b. IsIn t.0 (cond b (asked_partitions s ms who) (participants s who))) r t.1 in
+              let n : occurs t.0 (asked_partitions s ms who) + cond (all_voted (votes_for who ms) (participants s who)) (occurs t.0 (participants s who)) 0 ≡ 0
+              = subst (λ b. cond b (occurs t.0 (asked_partitions s ms who)) 0 + cond (all_voted (votes_for who ms) (participants s who)) (occurs t.0 (participants s who)) 0 ≡ 0) r (unending en t.0) in
+              omega (arith, n, occurs_there t.0 (asked_partitions s ms who) i))
 
           not_full : got ≡ length all → ⊥
           not_full full =
               let t = told_some s v H flight g who ms ids in
-              let i : IsIn t.0 (participants s who) = subst (λ b. IsIn t.0 (cond b (asked_parts s ms who) (participants s who))) unrefused t.1 in
+              let i : IsIn t.0 (participants s who) = subst (λ b. IsIn t.0 (cond b (asked_partitions s ms who) (participants s who))) unrefused t.1 in
               unprepared s v H flight g who pr t.0 (subst (λ b. 1 ≤ cond b (occurs t.0 (participants s who)) 0) (sym (subst (λ n. eqb got n ≡ true) full (same_part got))) (occurs_there t.0 (participants s who) i))
 
           get_some : (xs : List Access) (n : ℕ) → n < length xs → slice_get xs n ≡ None → ⊥
@@ -564,8 +564,8 @@ module _ (s : Setting) (v : Valid s) (H : List Entry) (flight : List Mail) (g : 
           nothing : got ≡ 0
           nothing = ap length (unstarted s p who ms (g.fit p) st)
 
-          none_prepared : (q : ℕ) (as' : List Access) → cond (eqb 0 (length as')) (occurs q (parts_of s.parts as')) 0 ≡ 0
-          none_prepared q [] = zero_if (occurs q (parts_of s.parts [])) (λ h. no_participant s.parts q (occurs_in q (parts_of s.parts []) h))
+          none_prepared : (q : ℕ) (as' : List Access) → cond (eqb 0 (length as')) (occurs q (partitions_of s.parts as')) 0 ≡ 0
+          none_prepared q [] = zero_if (occurs q (partitions_of s.parts [])) (λ h. no_participant s.parts q (occurs_in q (partitions_of s.parts []) h))
           none_prepared q (a ∷ as') = grind (arith, nat_tests)
 
           nv : NoVotes
@@ -574,7 +574,7 @@ module _ (s : Setting) (v : Valid s) (H : List Entry) (flight : List Mail) (g : 
           ended_none : (q : ℕ) → ends_to s v H flight g who q ≡ 0
           ended_none q =
               let r : refused_for who ms ≡ false = off_if (refused_for who ms) (λ x. unstart (refused_started s p who ms (g.fit p) x)) in
-              omega (arith, ap (λ b. cond b (occurs q (asked_parts s ms who)) 0) r, none_voted (votes_for who ms) q (participants s who) (λ x y. unstart ((phase s v H flight g who).voted x y).0.0))
+              omega (arith, ap (λ b. cond b (occurs q (asked_partitions s ms who)) 0) r, none_voted (votes_for who ms) q (participants s who) (λ x y. unstart ((phase s v H flight g who).voted x y).0.0))
 
           ne : NoEnds
           ne = no_ends (λ q. omega (arith, ledger_ends q, ended_none q))

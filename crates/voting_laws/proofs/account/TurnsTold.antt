@@ -13,7 +13,7 @@ use Rattle.server_core.specs.declared.messages.Mail.{Mail}
 use Rattle.server_core.specs.declared.messages.Entry.{Entry}
 use Rattle.server_core.specs.Setting.{Setting, home, homes, participants}
 use Rattle.server_core.specs.Replies.{grants_for, votes_for, refused_for, closes_for, all_voted, all_closed}
-use Rattle.server_core.specs.Coordinator.{asked_parts, told}
+use Rattle.server_core.specs.Coordinator.{asked_partitions, told}
 use Rattle.server_core.specs.Proper.{Valid}
 use Rattle.server_core.specs.Runs.{heard}
 use Rattle.server_core.specs.Counts.{count_msgs}
@@ -81,15 +81,15 @@ module _ (s : Setting) (v : Valid s) (H : List Entry) (flight : List Mail) (g : 
     end_told : (q : ℕ) → 1 ≤ ends_to s v H flight g who q → IsIn q (told s ms who)
     end_told q h = go (refused_for who ms) refl
       where
-        go : (b : Bool) → refused_for who ms ≡ b → IsIn q (cond b (asked_parts s ms who) (participants s who))
+        go : (b : Bool) → refused_for who ms ≡ b → IsIn q (cond b (asked_partitions s ms who) (participants s who))
         go true e =
             let x = (phase s v H flight g who).refused e in
-            let n : 1 ≤ occurs q (asked_parts s ms who) + cond (all_voted (votes_for who ms) (participants s who)) (occurs q (participants s who)) 0
-            = subst (λ b. 1 ≤ cond b (occurs q (asked_parts s ms who)) 0 + cond (all_voted (votes_for who ms) (participants s who)) (occurs q (participants s who)) 0) e h in
-            occurs_in q (asked_parts s ms who) (omega (arith, n, no_vote_yet s v H flight g who (slice_some (s.accesses who.txn) (length (grants_for who ms)) x.0 x.1) q))
+            let n : 1 ≤ occurs q (asked_partitions s ms who) + cond (all_voted (votes_for who ms) (participants s who)) (occurs q (participants s who)) 0
+            = subst (λ b. 1 ≤ cond b (occurs q (asked_partitions s ms who)) 0 + cond (all_voted (votes_for who ms) (participants s who)) (occurs q (participants s who)) 0) e h in
+            occurs_in q (asked_partitions s ms who) (omega (arith, n, no_vote_yet s v H flight g who (slice_some (s.accesses who.txn) (length (grants_for who ms)) x.0 x.1) q))
         go false e =
             let n : 1 ≤ 0 + cond (all_voted (votes_for who ms) (participants s who)) (occurs q (participants s who)) 0
-            = subst (λ b. 1 ≤ cond b (occurs q (asked_parts s ms who)) 0 + cond (all_voted (votes_for who ms) (participants s who)) (occurs q (participants s who)) 0) e h in
+            = subst (λ b. 1 ≤ cond b (occurs q (asked_partitions s ms who)) 0 + cond (all_voted (votes_for who ms) (participants s who)) (occurs q (participants s who)) 0) e h in
             occurs_in q (participants s who) (least (all_voted (votes_for who ms) (participants s who)) (omega (arith, n)))
           where
             least : (b : Bool) → 1 ≤ cond b (occurs q (participants s who)) 0 → 1 ≤ occurs q (participants s who)
@@ -100,15 +100,15 @@ module _ (s : Setting) (v : Valid s) (H : List Entry) (flight : List Mail) (g : 
     told_end : ending s H who ≡ true → (q : ℕ) → IsIn q (told s ms who) → 1 ≤ ends_to s v H flight g who q
     told_end en q i = let r = ending_to s v H flight g who en in go r.0 r.1 (refused_for who ms) refl (all_voted (votes_for who ms) (participants s who)) refl i
       where
-        go : (r : ℕ) → 1 ≤ ends_to s v H flight g who r → (a : Bool) → refused_for who ms ≡ a → (b : Bool) → all_voted (votes_for who ms) (participants s who) ≡ b → IsIn q (cond (refused_for who ms) (asked_parts s ms who) (participants s who)) → 1 ≤ ends_to s v H flight g who q
+        go : (r : ℕ) → 1 ≤ ends_to s v H flight g who r → (a : Bool) → refused_for who ms ≡ a → (b : Bool) → all_voted (votes_for who ms) (participants s who) ≡ b → IsIn q (cond (refused_for who ms) (asked_partitions s ms who) (participants s who)) → 1 ≤ ends_to s v H flight g who q
         go r h true ea b eb i =
-            let j : IsIn q (asked_parts s ms who) = subst (λ z. IsIn q (cond z (asked_parts s ms who) (participants s who))) ea i in
-            subst (λ z. 1 ≤ cond z (occurs q (asked_parts s ms who)) 0 + cond (all_voted (votes_for who ms) (participants s who)) (occurs q (participants s who)) 0) (sym ea) (omega (arith, occurs_there q (asked_parts s ms who) j))
+            let j : IsIn q (asked_partitions s ms who) = subst (λ z. IsIn q (cond z (asked_partitions s ms who) (participants s who))) ea i in
+            subst (λ z. 1 ≤ cond z (occurs q (asked_partitions s ms who)) 0 + cond (all_voted (votes_for who ms) (participants s who)) (occurs q (participants s who)) 0) (sym ea) (omega (arith, occurs_there q (asked_partitions s ms who) j))
         go r h false ea true eb i =
-            let j : IsIn q (participants s who) = subst (λ z. IsIn q (cond z (asked_parts s ms who) (participants s who))) ea i in
-            subst (λ z. 1 ≤ cond (refused_for who ms) (occurs q (asked_parts s ms who)) 0 + cond z (occurs q (participants s who)) 0) (sym eb) (omega (arith, occurs_there q (participants s who) j))
+            let j : IsIn q (participants s who) = subst (λ z. IsIn q (cond z (asked_partitions s ms who) (participants s who))) ea i in
+            subst (λ z. 1 ≤ cond (refused_for who ms) (occurs q (asked_partitions s ms who)) 0 + cond z (occurs q (participants s who)) 0) (sym eb) (omega (arith, occurs_there q (participants s who) j))
         go r h false ea false eb i =
-            let h' : 1 ≤ 0 + 0 = subst (λ z. 1 ≤ cond z (occurs r (asked_parts s ms who)) 0 + 0) ea (subst (λ z. 1 ≤ cond (refused_for who ms) (occurs r (asked_parts s ms who)) 0 + cond z (occurs r (participants s who)) 0) eb h) in
+            let h' : 1 ≤ 0 + 0 = subst (λ z. 1 ≤ cond z (occurs r (asked_partitions s ms who)) 0 + 0) ea (subst (λ z. 1 ≤ cond (refused_for who ms) (occurs r (asked_partitions s ms who)) 0 + cond z (occurs r (participants s who)) 0) eb h) in
             absurd (omega (arith, h'))
 
     -- ended everywhere: each partition that was told has closed

@@ -14,7 +14,7 @@ use Rattle.server_core.specs.Setting.{Setting, home, homes, participants}
 use Rattle.deneva_base.specs.declared.keys.Access.{Access}
 use Rattle.deneva_base.specs.Partitions.{partition_of}
 use Rattle.server_core.specs.Replies.{grants_for, votes_for, refused_for, started_for, all_voted}
-use Rattle.server_core.specs.Coordinator.{asked_parts}
+use Rattle.server_core.specs.Coordinator.{asked_partitions}
 use Rattle.server_core.specs.Participant.{calls}
 use Rattle.server_core.specs.VotingFits.{AllUndone}
 use Rattle.server_core.specs.Runs.{heard}
@@ -57,7 +57,7 @@ pub record Accounts (s : Setting) (H : List Entry) (flight : List Mail) (who : A
   -- once all is granted, for each participant one of: the Prepare in flight, the vote in flight, the vote handled
   pub votes : (q : ℕ) → flying flight q (prepares_of who) + flying flight (home s who.txn) (votes_of who q) + count_msgs (votes_of who q) ms ≡ cond (eqb (length (grants_for who ms)) (length (s.accesses who.txn))) (many q (participants s who)) 0
   -- once it was refused or all have voted, for each partition told one of: the Commit or Abort in flight, the reply in flight, the reply handled
-  pub ends : (q : ℕ) → flying flight q (ends_of who) + flying flight (home s who.txn) (closes_of who q) + count_msgs (closes_of who q) ms ≡ cond (refused_for who ms) (many q (asked_parts s ms who)) 0 + cond (all_voted (votes_for who ms) (participants s who)) (many q (participants s who)) 0
+  pub ends : (q : ℕ) → flying flight q (ends_of who) + flying flight (home s who.txn) (closes_of who q) + count_msgs (closes_of who q) ms ≡ cond (refused_for who ms) (many q (asked_partitions s ms who)) 0 + cond (all_voted (votes_for who ms) (participants s who)) (many q (participants s who)) 0
   -- a later turn begins after all earlier ones were undone
   pub turns : (turn : ℕ) → 1 ≤ turn → turn < who.turn → has_begun s H flight who ≡ true → AllUndone s ms (record { txn = who.txn; turn = turn })
 

@@ -16,14 +16,14 @@ use Rattle.server_core.specs.declared.messages.Msg.{Msg}
 use Rattle.server_core.specs.declared.messages.Msg.TheVariants.{Start, Ask, Granted, Refused, Yes, No, Commit, Abort, Done, Undone}
 use Rattle.server_core.specs.declared.messages.Mail.{Mail}
 use Rattle.server_core.specs.declared.messages.Entry.{Entry}
-use Rattle.server_core.specs.Setting.{Setting, home, homes, parts_of, take_first, rule_at, participants}
+use Rattle.server_core.specs.Setting.{Setting, home, homes, partitions_of, take_first, rule_at, participants}
 use Rattle.deneva_base.specs.declared.keys.Access.{Access}
 use Rattle.server_core.specs.Replies.{grants_for, votes_for, refused_for, closes_for, started_for, all_voted}
 use Rattle.server_core.specs.declared.ballots.Ballot.{Ballot}
 use Rattle.txn_program.specs.Transactions.{numbers_below}
 use Rattle.deneva_base.specs.Partitions.{partition_of}
 use Rattle.server_core.specs.Voting.{says, opening, first_starts}
-use Rattle.server_core.specs.Coordinator.{asked_parts, overs, told, first_no}
+use Rattle.server_core.specs.Coordinator.{asked_partitions, overs, told, first_no}
 use Rattle.server_core.specs.Participant.{calls}
 use Rattle.server_core.specs.VotingFits.{Suits, AllFit, IsAsking, HasAll, HasVoted, AllUndone, IsStarted, earlier_turn, Decides, IsAborted}
 use Rattle.server_core.specs.Proper.{ProperMsg, Valid, keys_in, ids_in}
@@ -191,7 +191,7 @@ pub occurs_filter : (q : ℕ) (p : ℕ → Bool) (xs : List ℕ) → occurs q (f
 occurs_filter q p [] = omega arith
 occurs_filter q p (x ∷ xs) = grind (arith, occurs_filter q p xs)
 
-pub once : (q parts : ℕ) (as' : List Access) → occurs q (parts_of parts as') ≤ 1
+pub once : (q parts : ℕ) (as' : List Access) → occurs q (partitions_of parts as') ≤ 1
 once q parts as' = omega (arith, occurs_filter q (λ p. list_any (λ (a : Access). eqb (partition_of a.key parts) p) as') (numbers_below parts), (occurs_below q parts).0)
 
 pub ids_filter : (x : TxnId) (p : TxnId → Bool) (ys : List TxnId) → ids_in x (filter p ys) ≤ ids_in x ys
@@ -243,21 +243,21 @@ module _ (s : Setting) (v : Valid s) (H : List Entry) (flight : List Mail) (g : 
       (λ r ne. prepares_said s r who q (heard r H) (g.fit r) ∙ ap (λ n. cond (eqb (length n) (length all)) (occurs q (participants s who)) 0) (elsewhere r ne).1 ∙ none_of all) in
       omega (arith, l, opening_none s q (is_prepare who) (record { start = λ x. refl }), prepares_said s (home s who.txn) who q at_home fit_home)
     where
-      none_of : (as' : List Access) → cond (eqb 0 (length as')) (occurs q (parts_of s.parts as')) 0 ≡ 0
-      none_of [] = none_in (occurs q (parts_of s.parts [])) (λ h. no_participant s.parts q (occurs_in q (parts_of s.parts []) h))
+      none_of : (as' : List Access) → cond (eqb 0 (length as')) (occurs q (partitions_of s.parts as')) 0 ≡ 0
+      none_of [] = none_in (occurs q (partitions_of s.parts [])) (λ h. no_participant s.parts q (occurs_in q (partitions_of s.parts []) h))
         where
           none_in : (n : ℕ) → (1 ≤ n → ⊥) → n ≡ 0
           none_in n h = grind (arith, h)
       none_of (a ∷ as') = grind (arith, nat_tests)
 
-  pub end_ledger : (q : ℕ) → count (sent_to q (is_end who)) flight + count_msgs (is_end who) (heard q H) ≡ cond (refused_for who at_home) (occurs q (asked_parts s at_home who)) 0 + cond (all_voted (votes_for who at_home) (participants s who)) (occurs q (participants s who)) 0
+  pub end_ledger : (q : ℕ) → count (sent_to q (is_end who)) flight + count_msgs (is_end who) (heard q H) ≡ cond (refused_for who at_home) (occurs q (asked_partitions s at_home who)) 0 + cond (all_voted (votes_for who at_home) (participants s who)) (occurs q (participants s who)) 0
   end_ledger q =
       let l = ledger (says s) (opening s) (is_end who) (home s who.txn) q H flight g.run
       (λ r ne.
       let e = (elsewhere r ne).0 in
       let a : refused_for who (heard r H) ≡ false = off_if (refused_for who (heard r H)) (λ x. true≢false (sym (refused_started s r who (heard r H) (g.fit r) x) ∙ e)) in
       let b = none_voted (votes_for who (heard r H)) q (participants s who) (λ x y. true≢false (sym ((phases s r who (heard r H) (g.fit r)).voted x y).0.0 ∙ e)) in
-      omega (arith, ends_said s r who q (heard r H) (g.fit r), b, ap (λ x. cond x (occurs q (asked_parts s (heard r H) who)) 0) a)) in
+      omega (arith, ends_said s r who q (heard r H) (g.fit r), b, ap (λ x. cond x (occurs q (asked_partitions s (heard r H) who)) 0) a)) in
       omega (arith, l, opening_none s q (is_end who) (record { start = λ x. refl }), ends_said s (home s who.txn) who q at_home fit_home)
 
   abbrev pub waiting_at : Key → ℕ
@@ -367,7 +367,7 @@ module _ (s : Setting) (v : Valid s) (H : List Entry) (flight : List Mail) (g : 
   may_open q none i = omega (arith, closed_heard (rule_at s q) who (heard q H) i)
 
   pub no_end_yet : (q : ℕ) → refused_for who at_home ≡ false → got < length all → count_msgs (is_end who) (heard q H) ≡ 0
-  no_end_yet q r lt = omega (arith, end_ledger q, ap (λ b. cond b (occurs q (asked_parts s at_home who)) 0) r, no_vote_yet lt q)
+  no_end_yet q r lt = omega (arith, end_ledger q, ap (λ b. cond b (occurs q (asked_partitions s at_home who)) 0) r, no_vote_yet lt q)
 
   pub at_most_one : (key : Key) → cond (started_for who at_home) (keys_in key (take_first (suc got) all)) 0 ≤ 1
   at_most_one key = bound (started_for who at_home)
@@ -424,7 +424,7 @@ module _ (s : Setting) (v : Valid s) (H : List Entry) (flight : List Mail) (g : 
   some_of : (q : ℕ) → IsIn q (participants s who) → 1 ≤ length all
   some_of q i = go all refl i
     where
-      go : (as' : List Access) → all ≡ as' → IsIn q (parts_of s.parts as') → 1 ≤ length as'
+      go : (as' : List Access) → all ≡ as' → IsIn q (partitions_of s.parts as') → 1 ≤ length as'
       go [] e j = absurd (no_participant s.parts q j)
       go (a ∷ as') e j = omega arith
 
@@ -458,14 +458,14 @@ module _ (s : Setting) (v : Valid s) (H : List Entry) (flight : List Mail) (g : 
       part_itself n = grind (arith, nat_tests)
 
   -- the end of an attempt is said once
-  pub ends_once : (q : ℕ) → cond (refused_for who at_home) (occurs q (asked_parts s at_home who)) 0 + cond (all_voted (votes_for who at_home) (participants s who)) (occurs q (participants s who)) 0 ≤ 1
+  pub ends_once : (q : ℕ) → cond (refused_for who at_home) (occurs q (asked_partitions s at_home who)) 0 + cond (all_voted (votes_for who at_home) (participants s who)) (occurs q (participants s who)) 0 ≤ 1
   ends_once q = go (refused_for who at_home) refl
     where
       second : (b : Bool) → cond b (occurs q (participants s who)) 0 ≤ 1
       second true = once q s.parts all
       second false = omega arith
 
-      go : (b : Bool) → refused_for who at_home ≡ b → cond b (occurs q (asked_parts s at_home who)) 0 + cond (all_voted (votes_for who at_home) (participants s who)) (occurs q (participants s who)) 0 ≤ 1
+      go : (b : Bool) → refused_for who at_home ≡ b → cond b (occurs q (asked_partitions s at_home who)) 0 + cond (all_voted (votes_for who at_home) (participants s who)) (occurs q (participants s who)) 0 ≤ 1
       go false e = omega (arith, second (all_voted (votes_for who at_home) (participants s who)))
       go true e =
           let a = phase.refused e in
@@ -482,7 +482,7 @@ module _ (s : Setting) (v : Valid s) (H : List Entry) (flight : List Mail) (g : 
       let un = unrefused_with a.0 in
       let off : all_voted (votes_for who at_home) (participants s who) ≡ false
       = off_if (all_voted (votes_for who at_home) (participants s who)) (λ e. unvoted q (omega (arith, none, vote_ledger q)) (voted_in (votes_for who at_home) (participants s who) q e a.1)) in
-      (may_call q (omega (arith, end_ledger q, ap (λ b. cond b (occurs q (asked_parts s at_home who)) 0) un, ap (λ b. cond b (occurs q (participants s who)) 0) off)), may_open q none, a.0, un)
+      (may_call q (omega (arith, end_ledger q, ap (λ b. cond b (occurs q (asked_partitions s at_home who)) 0) un, ap (λ b. cond b (occurs q (participants s who)) 0) off)), may_open q none, a.0, un)
 
   -- a message that was handled was said by the node that its kind names
   pub said_at : (q : ℕ) (m : Msg) → IsIn m (heard q H) → ((y : Attempt) → m ≡ Start y → ⊥) → (x : Mail) × (p : ℕ) × (x.msg ≡ m) × (x.to ≡ q) × IsIn x (all_said (says s) p (heard p H)) × ProperMsg s p q m
@@ -567,12 +567,12 @@ module _ (s : Setting) (v : Valid s) (H : List Entry) (flight : List Mail) (g : 
       let none : count_msgs (is_close who r) at_home ≡ 0 = omega (arith, one, close_ledger r, end_ledger r, ends_once r) in
       ((λ i. omega (arith, none, closed_in who r at_home i)), told_of (refused_for who at_home) refl)
     where
-      told_of : (b : Bool) → refused_for who at_home ≡ b → IsIn r (cond b (asked_parts s at_home who) (participants s who))
+      told_of : (b : Bool) → refused_for who at_home ≡ b → IsIn r (cond b (asked_partitions s at_home who) (participants s who))
       told_of true e =
           let a = phase.refused e in
-          occurs_in r (asked_parts s at_home who) (omega (arith, one, close_ledger r, end_ledger r, no_vote_yet (slice_some all got a.0 a.1) r, ap (λ b. cond b (occurs r (asked_parts s at_home who)) 0) e))
+          occurs_in r (asked_partitions s at_home who) (omega (arith, one, close_ledger r, end_ledger r, no_vote_yet (slice_some all got a.0 a.1) r, ap (λ b. cond b (occurs r (asked_partitions s at_home who)) 0) e))
       told_of false e =
-          occurs_in r (participants s who) (omega (arith, one, close_ledger r, end_ledger r, at_most (all_voted (votes_for who at_home) (participants s who)), ap (λ b. cond b (occurs r (asked_parts s at_home who)) 0) e))
+          occurs_in r (participants s who) (omega (arith, one, close_ledger r, end_ledger r, at_most (all_voted (votes_for who at_home) (participants s who)), ap (λ b. cond b (occurs r (asked_partitions s at_home who)) 0) e))
         where
           at_most : (b : Bool) → cond b (occurs r (participants s who)) 0 ≤ occurs r (participants s who)
           at_most true = omega arith

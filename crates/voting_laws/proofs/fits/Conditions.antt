@@ -30,7 +30,7 @@ use Rattle.deneva_base.specs.declared.keys.Access.{Access}
 use Rattle.server_core.specs.Replies.{Reply, grants_for, votes_for, all_voted, refused_for, closes_for, started_for, all_closed}
 use Rattle.txn_program.specs.Transactions.{numbers_below}
 use Rattle.deneva_base.specs.Partitions.{partition_of}
-use Rattle.server_core.specs.Coordinator.{at_part, reads_of, asked_parts, told, effect_of}
+use Rattle.server_core.specs.Coordinator.{at_part, reads_of, asked_partitions, told, effect_of}
 use Rattle.server_core.specs.Voting.{says, opening}
 use Rattle.server_core.specs.Participant.{calls}
 use Rattle.server_core.specs.Stamps.{stamp_from, stamped}
@@ -346,7 +346,7 @@ module _ (s : Setting) (v : Valid s) (H : List Entry) (flight : List Mail) (g : 
               under true h = h
               under false h = absurd (omega (arith, h))
 
-          go : (b : Bool) → IsIn (partition_of key s.parts) (cond b (asked_parts s (heard (home s y.txn) H) y) (participants s y))
+          go : (b : Bool) → IsIn (partition_of key s.parts) (cond b (asked_partitions s (heard (home s y.txn) H) y) (participants s y))
           go true = parts_in s.parts key (take_first (suc (length (grants_for y (heard (home s y.txn) H)))) (s.accesses y.txn)) v.parts asked
           go false = parts_in s.parts key (s.accesses y.txn) v.parts (omega (arith, asked, keys_take key (suc (length (grants_for y (heard (home s y.txn) H)))) (s.accesses y.txn)))
 
@@ -553,7 +553,7 @@ module _ (s : Setting) (v : Valid s) (H : List Entry) (flight : List Mail) (g : 
       )
 
   -- the end of an attempt is said where it asked
-  asked_there : (q : ℕ) → 1 ≤ cond (refused_for who home') (occurs q (asked_parts s home' who)) 0 + cond (all_voted (votes_for who home') (participants s who)) (occurs q (participants s who)) 0 → (a : Asked) × IsIn a (asks (calls s q (heard q H))) × (a.who ≡ who)
+  asked_there : (q : ℕ) → 1 ≤ cond (refused_for who home') (occurs q (asked_partitions s home' who)) 0 + cond (all_voted (votes_for who home') (participants s who)) (occurs q (participants s who)) 0 → (a : Asked) × IsIn a (asks (calls s q (heard q H))) × (a.who ≡ who)
   asked_there q h = go (refused_for who home') refl (all_voted (votes_for who home') (participants s who)) refl h
     where
       from : (k : Key) → partition_of k s.parts ≡ q → 1 ≤ count_msgs (is_answer who k) home' → (a : Asked) × IsIn a (asks (calls s q (heard q H))) × (a.who ≡ who)
@@ -561,12 +561,12 @@ module _ (s : Setting) (v : Valid s) (H : List Entry) (flight : List Mail) (g : 
           let a = heard_ask s (partition_of k s.parts) who k (heard (partition_of k s.parts) H) (omega (arith, one, answer_ledger s v H flight g who k)) in
           (a.0, subst (λ p. IsIn a.0 (asks (calls s p (heard p H)))) at a.1, a.2)
 
-      go : (b : Bool) → refused_for who home' ≡ b → (c : Bool) → all_voted (votes_for who home') (participants s who) ≡ c → 1 ≤ cond b (occurs q (asked_parts s home' who)) 0 + cond c (occurs q (participants s who)) 0 → (a : Asked) × IsIn a (asks (calls s q (heard q H))) × (a.who ≡ who)
+      go : (b : Bool) → refused_for who home' ≡ b → (c : Bool) → all_voted (votes_for who home') (participants s who) ≡ c → 1 ≤ cond b (occurs q (asked_partitions s home' who)) 0 + cond c (occurs q (participants s who)) 0 → (a : Asked) × IsIn a (asks (calls s q (heard q H))) × (a.who ≡ who)
       go true eb c ec h =
           let ph = (phase s v H flight g who).refused eb in
           let lt : n < length as' = slice_some as' n ph.0 ph.1 in
           let later : cond c (occurs q (participants s who)) 0 ≡ 0 = subst (λ z. cond z (occurs q (participants s who)) 0 ≡ 0) ec (no_vote_yet s v H flight g who lt q) in
-          let a = parts_from s.parts q (take_first (suc n) as') (occurs_in q (asked_parts s home' who) (omega (arith, h, later))) in
+          let a = parts_from s.parts q (take_first (suc n) as') (occurs_in q (asked_partitions s home' who) (omega (arith, h, later))) in
           let more = keys_more a.0.key n as' in
           let w : count_msgs (is_answer who a.0.key) home' ≡ keys_in a.0.key (take_first n as') + key_in a.0.key (slice_get as' n)
           = answers_heard s (home s who.txn) who a.0.key home' (g.fit (home s who.txn)) ∙ ap (λ z. keys_in a.0.key (take_first n as') + cond z (key_in a.0.key (slice_get as' n)) 0) eb in

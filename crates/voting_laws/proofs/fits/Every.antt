@@ -10,7 +10,7 @@ use Rattle.server_core.specs.declared.messages.Msg.{Msg}
 use Rattle.server_core.specs.declared.messages.Msg.TheVariants.{Start, Ask, Granted, Refused, Prepare, Yes, No, Commit, Abort, Done, Undone, Tick, Batch, Rows, Finished}
 use Rattle.server_core.specs.declared.messages.Mail.{Mail}
 use Rattle.server_core.specs.declared.messages.Entry.{Entry}
-use Rattle.server_core.specs.Setting.{Setting, home, parts_of, participants}
+use Rattle.server_core.specs.Setting.{Setting, home, partitions_of, participants}
 use Rattle.server_core.specs.Voting.{says}
 use Rattle.server_core.specs.Replies.{started_for}
 use Rattle.server_core.specs.VotingFits.{Suits, AllFit, Decides, IsAborted, earlier_turn}
@@ -172,7 +172,7 @@ module _ (s : Setting) (v : Valid s) (H : List Entry) (flight : List Mail) (g : 
         arith,
         l,
         ap (count (sent_to q (is_end a))) quiet,
-        ap (λ b. cond b (occurs q (parts_of s.parts (s.accesses a.txn))) 0) d.0.0.1,
+        ap (λ b. cond b (occurs q (partitions_of s.parts (s.accesses a.txn))) 0) d.0.0.1,
         in_occurs q (participants s a) j,
       ) in
       let m = find_msg (is_end a) (heard q H) k in

@@ -18,7 +18,7 @@ use Rattle.deneva_base.proofs.Membership.{in_cases, filter_in, attempt_tells}
 use Rattle.server_core.specs.declared.messages.Msg.{Msg}
 use Rattle.server_core.specs.declared.messages.Msg.TheVariants.{Start, Ask, Granted, Prepare, Commit}
 use Rattle.server_core.specs.declared.messages.Mail.{Mail}
-use Rattle.server_core.specs.Setting.{Setting, rule_at, parts_of}
+use Rattle.server_core.specs.Setting.{Setting, rule_at, partitions_of}
 use Rattle.deneva_base.specs.declared.keys.Access.{Access}
 use Rattle.server_core.specs.Replies.{Reply, grants_for}
 use Rattle.txn_program.specs.declared.effects.Effect.{Effect}
@@ -39,7 +39,7 @@ use Rattle.server_core.proofs.values.Origins.{in_map}
 use Rattle.server_core.specs.Proper.{Valid}
 
 -- without accesses there is no participant
-pub no_participant : (parts q : ℕ) → IsIn q (parts_of parts []) → ⊥
+pub no_participant : (parts q : ℕ) → IsIn q (partitions_of parts []) → ⊥
 no_participant parts q i = true≢false (sym (filter_in (λ p. list_any (λ (a : Access). eqb (partition_of a.key parts) p) []) q (numbers_below parts) i).1)
 
 -- what a partition holds came by its messages
@@ -99,7 +99,7 @@ module _ (s : Setting) (v : Valid s) (p : ℕ) (who : Attempt) where
   by_own_grant k r n bd ms f fit None so x b w a e i =
       let rs : List Reply = reverse (record { row = r; bound = bd; key = k } ∷ grants_for who ms) in
       let eff : Effect = effect_of s who.txn rs in
-      let m = in_map (prepare_to s p who (bound_of rs) eff) x (parts_of s.parts (s.accesses who.txn)) i in
+      let m = in_map (prepare_to s p who (bound_of rs) eff) x (partitions_of s.parts (s.accesses who.txn)) i in
       let d : Prepare who (bound_of rs) (at_part s.parts m.0 (written eff)) (at_part s.parts m.0 (appended eff)) ≡ Prepare who b w a = sym (ap (λ (z : Mail). z.msg) m.2) ∙ e in
       let bs : bound_of rs ≡ b = cc in
       let ws : at_part s.parts m.0 (written eff) ≡ w = cc in
@@ -140,10 +140,10 @@ module _ (s : Setting) (v : Valid s) (p : ℕ) (who : Attempt) where
 
       at_start : (y : Attempt) (st : ℕ) (o : Option Access) → slice_get (s.accesses y.txn) 0 ≡ o → IsIn x (next_ask s p y st [] o) → ⊥
       at_start y st None so k =
-          let m = in_map (prepare_to s p y (bound_of []) (effect_of s y.txn [])) x (parts_of s.parts (s.accesses y.txn)) k in
+          let m = in_map (prepare_to s p y (bound_of []) (effect_of s y.txn [])) x (partitions_of s.parts (s.accesses y.txn)) k in
           none_in (s.accesses y.txn) (slice_none (s.accesses y.txn) 0 so) m.0 m.1
         where
-          none_in : (as' : List Access) → length as' ≤ 0 → (q : ℕ) → IsIn q (parts_of s.parts as') → ⊥
+          none_in : (as' : List Access) → length as' ≤ 0 → (q : ℕ) → IsIn q (partitions_of s.parts as') → ⊥
           none_in [] h q i = no_participant s.parts q i
           none_in (c ∷ as') h q i = omega (arith, h)
       at_start y st (Some c) so k = ⊎_elim (λ is. let d : Ask y st c.key c.mode ≡ Prepare who b w a = sym (ap (λ (z : Mail). z.msg) is) ∙ e in absurd (cc (d))) (λ z. z) k

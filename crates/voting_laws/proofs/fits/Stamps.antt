@@ -12,7 +12,7 @@ use Rattle.deneva_base.proofs.Membership.{in_cases, attempt_tells, key_tells}
 use Rattle.server_core.specs.declared.messages.Msg.{Msg}
 use Rattle.server_core.specs.declared.messages.Msg.TheVariants.{Start, Ask, Granted, Refused}
 use Rattle.server_core.specs.declared.messages.Mail.{Mail}
-use Rattle.server_core.specs.Setting.{Setting, parts_of}
+use Rattle.server_core.specs.Setting.{Setting, partitions_of}
 use Rattle.deneva_base.specs.declared.keys.Access.{Access}
 use Rattle.server_core.specs.Replies.{Reply, grants_for, started_for}
 use Rattle.server_core.specs.Stamps.{raised, counter, stamped, stamp_from}
@@ -138,7 +138,7 @@ module _ (s : Setting) (p : ℕ) where
       (λ n. absurd n)
       i
   from_next y who stamp st k m rs None x e i =
-      let n = in_map (prepare_to s p y (bound_of rs) (effect_of s y.txn rs)) x (parts_of s.parts (s.accesses y.txn)) i in
+      let n = in_map (prepare_to s p y (bound_of rs) (effect_of s y.txn rs)) x (partitions_of s.parts (s.accesses y.txn)) i in
       absurd (not_prepare x.msg n.0 (ap (λ (z : Mail). z.msg) n.2) e)
     where
       not_prepare : (z : Msg) (q : ℕ) → z ≡ (prepare_to s p y (bound_of rs) (effect_of s y.txn rs) q).msg → z ≡ Ask who st k m → ⊥

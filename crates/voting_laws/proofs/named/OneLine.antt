@@ -14,7 +14,7 @@ use Rattle.server_core.specs.declared.messages.Mail.{Mail}
 use Rattle.server_core.specs.declared.messages.Entry.{Entry}
 use Rattle.server_core.specs.Setting.{Setting, home, participants}
 use Rattle.server_core.specs.Replies.{votes_for, refused_for, started_for, all_voted}
-use Rattle.server_core.specs.Coordinator.{asked_parts, first_no, greatest_lo, least_hi, decision}
+use Rattle.server_core.specs.Coordinator.{asked_partitions, first_no, greatest_lo, least_hi, decision}
 use Rattle.server_core.specs.VotingFits.{IsAborted, Polled}
 use Rattle.server_core.specs.Proper.{Valid, ids_in}
 use Rattle.server_core.specs.RunAccount.{ends_of, all_mails, was_said}
@@ -168,11 +168,11 @@ module _ (s : Setting) (v : Valid s) (H : List Entry) (flight : List Mail) (g : 
               t.0,
               ⊎_elim
                   (λ (r : refused_for who ms ≡ true).
-                  let i : IsIn t.0 (asked_parts s ms who) = subst (λ z. IsIn t.0 (cond z (asked_parts s ms who) (participants s who))) r t.1 in
-                  subst (λ z. 1 ≤ cond z (occurs t.0 (asked_parts s ms who)) 0 + cond (all_voted (votes_for who ms) (participants s who)) (occurs t.0 (participants s who)) 0) (sym r) (omega (arith, occurs_there t.0 (asked_parts s ms who) i)))
+                  let i : IsIn t.0 (asked_partitions s ms who) = subst (λ z. IsIn t.0 (cond z (asked_partitions s ms who) (participants s who))) r t.1 in
+                  subst (λ z. 1 ≤ cond z (occurs t.0 (asked_partitions s ms who)) 0 + cond (all_voted (votes_for who ms) (participants s who)) (occurs t.0 (participants s who)) 0) (sym r) (omega (arith, occurs_there t.0 (asked_partitions s ms who) i)))
                   (λ d.
-                  let i : IsIn t.0 (participants s who) = subst (λ z. IsIn t.0 (cond z (asked_parts s ms who) (participants s who))) d.0.0.1 t.1 in
-                  subst (λ z. 1 ≤ cond (refused_for who ms) (occurs t.0 (asked_parts s ms who)) 0 + cond z (occurs t.0 (participants s who)) 0) (sym d.0.1) (omega (arith, occurs_there t.0 (participants s who) i)))
+                  let i : IsIn t.0 (participants s who) = subst (λ z. IsIn t.0 (cond z (asked_partitions s ms who) (participants s who))) d.0.0.1 t.1 in
+                  subst (λ z. 1 ≤ cond (refused_for who ms) (occurs t.0 (asked_partitions s ms who)) 0 + cond z (occurs t.0 (participants s who)) 0) (sym d.0.1) (omega (arith, occurs_there t.0 (participants s who) i)))
                   a,
             )
 

@@ -13,11 +13,11 @@ use Rattle.server_core.specs.declared.messages.Msg.{Msg}
 use Rattle.server_core.specs.declared.messages.Msg.TheVariants.{Start, Ask, Granted, Refused, Prepare, Yes, No, Commit, Abort, Done, Undone, Tick, Batch, Rows, Finished}
 use Rattle.server_core.specs.declared.messages.Mail.{Mail}
 use Rattle.server_core.specs.declared.messages.Entry.{Entry}
-use Rattle.server_core.specs.Setting.{Setting, home, parts_of, take_first, participants}
+use Rattle.server_core.specs.Setting.{Setting, home, partitions_of, take_first, participants}
 use Rattle.deneva_base.specs.declared.keys.Access.{Access}
 use Rattle.deneva_base.specs.Partitions.{partition_of}
 use Rattle.server_core.specs.Replies.{grants_for, refused_for, started_for}
-use Rattle.server_core.specs.Coordinator.{told, asked_parts}
+use Rattle.server_core.specs.Coordinator.{told, asked_partitions}
 use Rattle.server_core.specs.VotingFits.{Suits, AllFit}
 use Rattle.server_core.specs.Proper.{Valid}
 use Rattle.server_core.specs.Limits.{is_of, count_entries, most_of, sum_of, most_events, Limits}
@@ -199,7 +199,7 @@ module _ (s : Setting) (v : Valid s) (H : List Entry) (flight : List Mail) (g : 
         taken (suc n) a [] i = absurd i
         taken (suc n) a (b ∷ as') i = ⊎_elim (λ e. inl e) (λ r. inr (taken n a as' r)) i
 
-        go : (b : Bool) → IsIn q (cond b (asked_parts s ms who) ps) → IsIn q ps
+        go : (b : Bool) → IsIn q (cond b (asked_partitions s ms who) ps) → IsIn q ps
         go true i =
             let a = parts_from s.parts q (take_first (suc (length (grants_for who ms))) acc) i in
             subst (λ z. IsIn z ps) a.2 (parts_in s.parts a.0.key acc v.parts (key_there a.0.key a.0.mode acc (taken (suc (length (grants_for who ms))) a.0 acc a.1)))
@@ -486,7 +486,7 @@ sum_const f c (x ∷ xs) h = omega (arith, h x (inl refl), sum_const f c xs (λ 
     times n m = grind arith
 
 -- 10,000 transactions of at most 18 accesses at 16 partitions, with 8 attempts, have at most 8,080,000 events
-pub events_within : (s : Setting) → s.attempts ≤ 8 → length s.ids ≤ 10000 → ((x : TxnId) → (length (s.accesses x) ≤ 18) × (length (parts_of s.parts (s.accesses x)) ≤ 16)) → most_events s ≤ 8080000
+pub events_within : (s : Setting) → s.attempts ≤ 8 → length s.ids ≤ 10000 → ((x : TxnId) → (length (s.accesses x) ≤ 18) × (length (partitions_of s.parts (s.accesses x)) ≤ 16)) → most_events s ≤ 8080000
 events_within s eight ids each =
     let a : sum_of (λ x. s.attempts * most_of s x) s.ids ≤ length s.ids * 808 = sum_const (λ x. s.attempts * most_of s x) 808 s.ids (λ x i. prod s.attempts (most_of s x) eight (omega (arith, (each x).0, (each x).1))) in
     omega (arith, a, ids)
@@ -498,7 +498,7 @@ events_within s eight ids each =
         mono a b k h = grind (arith, h)
 
 -- so they keep all numbers below 2^48, for each rule whose span is at most 8,192
-pub limits_within : (s : Setting) (span : ℕ) → Grows s.rule span → span ≤ 8192 → s.parts ≤ 16 → s.attempts ≤ 8 → length s.ids ≤ 10000 → ((x : TxnId) → (length (s.accesses x) ≤ 18) × (length (parts_of s.parts (s.accesses x)) ≤ 16)) → Limits s
+pub limits_within : (s : Setting) (span : ℕ) → Grows s.rule span → span ≤ 8192 → s.parts ≤ 16 → s.attempts ≤ 8 → length s.ids ≤ 10000 → ((x : TxnId) → (length (s.accesses x) ≤ 18) × (length (partitions_of s.parts (s.accesses x)) ≤ 16)) → Limits s
 limits_within s span gr sp parts eight ids each =
     let e = events_within s eight ids each in
     record { span = span; grows = gr; short = omega (arith, e); small = omega (arith, prod (most_events s) (span + 2 * s.parts) e (omega (arith, sp, parts))) }

@@ -27,7 +27,7 @@ use Rattle.server_core.specs.declared.ballots.Ballot.{Ballot}
 use Rattle.txn_program.specs.Transactions.{numbers_below}
 use Rattle.deneva_base.specs.Partitions.{partition_of}
 use Rattle.server_core.specs.Stamps.{raised, counter, stamped, stamp_from}
-use Rattle.server_core.specs.Coordinator.{first_no, greatest_lo, least_hi, decision, to_all, polled, told, asked_parts, overs, next_start, mail_start, next_ask, prepare_to, bound_of, greatest_bound, effect_of, coordinator}
+use Rattle.server_core.specs.Coordinator.{first_no, greatest_lo, least_hi, decision, to_all, polled, told, asked_partitions, overs, next_start, mail_start, next_ask, prepare_to, bound_of, greatest_bound, effect_of, coordinator}
 use Rattle.server_core.specs.Participant.{calls, participant, answer_mails, vote_mail, mail_home, wake_mails}
 use Rattle.server_core.specs.Voting.{says}
 use Rattle.server_core.specs.VotingFits.{Suits, AllFit}
@@ -215,7 +215,7 @@ module _ (s : Setting) (v : Valid s) (span : ℕ) (gr : Grows s.rule span) (p : 
       next_under who (stamp_from s p ms (stamped s who)) (reverse (record { row = row; bound = bd; key = k } ∷ grants_for who ms)) (slice_get (s.accesses who.txn) (suc (length (grants_for who ms)))) (omega (arith, st, c))
       (λ r j. ⊎_elim (λ (e : r ≡ record { row = row; bound = bd; key = k }). omega (arith, (u (Granted who k row n bd) (inl refl)).1, ap (λ (z : Reply). z.bound) e)) (λ j'. bounds_under b who ms (λ y j. u y (inr j)) r j') (in_reverse r (record { row = row; bound = bd; key = k } ∷ grants_for who ms) j))
       x i
-  coordinator_under (Refused who k d) ms f all fit u c x i = all_under (Abort who) (asked_parts s ms who) tt x i
+  coordinator_under (Refused who k d) ms f all fit u c x i = all_under (Abort who) (asked_partitions s ms who) tt x i
   coordinator_under (Yes who part lo hi) ms f all fit u c x i = polled_under who (record { part = part; vote = VotesYes lo hi } ∷ votes_for who ms) (omega (arith, u (Yes who part lo hi) (inl refl), votes_under b who ms (λ y j. u y (inr j)))) x i
   coordinator_under (No who part d) ms f all fit u c x i = polled_under who (record { part = part; vote = VotesNo d } ∷ votes_for who ms) (omega (arith, votes_under b who ms (λ y j. u y (inr j)))) x i
   coordinator_under (Done who part) ms f all fit u c x i = go (all_closed (part ∷ closes_for who ms) (told s ms who)) i

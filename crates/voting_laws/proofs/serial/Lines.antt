@@ -16,7 +16,7 @@ use Rattle.server_core.specs.declared.messages.Msg.{Msg}
 use Rattle.server_core.specs.declared.messages.Msg.TheVariants.{Start, Ask, Granted, Commit, Abort, Done, Undone}
 use Rattle.server_core.specs.declared.messages.Mail.{Mail}
 use Rattle.server_core.specs.declared.messages.Entry.{Entry}
-use Rattle.server_core.specs.Setting.{Setting, home, parts_of, participants}
+use Rattle.server_core.specs.Setting.{Setting, home, partitions_of, participants}
 use Rattle.deneva_base.specs.declared.keys.Access.{Access}
 use Rattle.server_core.specs.Replies.{Reply, grants_for, started_for, all_closed, votes_for}
 use Rattle.deneva_base.specs.Partitions.{partition_of}
@@ -218,10 +218,10 @@ module _ (s : Setting) (v : Valid s) (H : List Entry) (flight : List Mail) (g : 
     pub place : ℕ
     pub commit : IsIn (Commit who l.number) (heard place H)
 
-  pub listed_part : (x : TxnId) → IsIn x s.ids → (q : ℕ) × IsIn q (parts_of s.parts (s.accesses x))
+  pub listed_part : (x : TxnId) → IsIn x s.ids → (q : ℕ) × IsIn q (partitions_of s.parts (s.accesses x))
   listed_part x i = go (s.accesses x) (v.some x i)
     where
-      go : (as' : List Access) → 1 ≤ length as' → (q : ℕ) × IsIn q (parts_of s.parts as')
+      go : (as' : List Access) → 1 ≤ length as' → (q : ℕ) × IsIn q (partitions_of s.parts as')
       go [] h = absurd (omega (arith, h))
       go (a ∷ as') h = (partition_of a.key s.parts, parts_in s.parts a.key (a ∷ as') v.parts (key_there a.key a.mode (a ∷ as') (inl refl)))
 

@@ -31,7 +31,7 @@ use Rattle.voting_laws.proofs.fits.Joins.{decided_heard, heard_decided}
 use Rattle.voting_laws.proofs.fits.Account.{Good}
 use Rattle.voting_laws.proofs.fits.Every.{atomic, everywhere}
 use Rattle.voting_laws.proofs.serial.Lines.{Fact, facts}
-use Rattle.voting_laws.proofs.serial.SerialRuns.{complete, same_commit, takes_part, vote_holds, effect_is, one_row}
+use Rattle.voting_laws.proofs.serial.SerialRuns.{complete, same_commit, participates, vote_holds, effect_is, one_row}
 use Rattle.server_core.proofs.serial.GreatestWrites.{Top, tops, row_none}
 
 irr : (a b : Number) → NumberLt a b → NumberLt b a → ⊥
@@ -139,7 +139,7 @@ module _ (s : Setting) (v : Valid s) (H : List Entry) (g : Good s H []) (key : K
   line_here l f row w =
       let rs = reads_of (s.accesses f.who.txn) (replies s H f.who) in
       let i = in_cases (record { key = key; row = row }) (written (effect_of s f.who.txn (replies s H f.who))) (appended (effect_of s f.who.txn (replies s H f.who))) (subst (λ (e : Effect). IsIn (record { key = key; row = row }) (leaves e)) (effect_is s v H g l f) w) in
-      let q : IsIn p (participants s f.who) = ⊎_elim (λ a. let acc = v.writes f.who.txn rs (record { key = key; row = row }) a in takes_part s v H g f.who key acc.0 acc.2) (λ b. (v.appends f.who.txn rs (record { key = key; row = row }) b).2) i in
+      let q : IsIn p (participants s f.who) = ⊎_elim (λ a. let acc = v.writes f.who.txn rs (record { key = key; row = row }) a in participates s v H g f.who key acc.0 acc.2) (λ b. (v.appends f.who.txn rs (record { key = key; row = row }) b).2) i in
       let y = (atomic s v H [] g).window f.who l.number f.place p f.commit q in
       let h = vote_holds s v H g f.who p y.0 y.1 y.2 in (
         heard_decided s p (heard p H) f.who l.number (everywhere s v H [] g refl f.who l.number f.place p f.commit q),

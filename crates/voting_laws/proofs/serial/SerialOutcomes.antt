@@ -18,7 +18,7 @@ use Rattle.server_core.specs.declared.messages.Msg.{Msg}
 use Rattle.server_core.specs.declared.messages.Msg.TheVariants.{Ask, Commit, Undone}
 use Rattle.server_core.specs.declared.messages.Mail.{Mail}
 use Rattle.server_core.specs.declared.messages.Entry.{Entry}
-use Rattle.server_core.specs.Setting.{Setting, home, parts_of, take_first}
+use Rattle.server_core.specs.Setting.{Setting, home, partitions_of, take_first}
 use Rattle.deneva_base.specs.declared.keys.Access.{Access}
 use Rattle.server_core.specs.Replies.{Reply, grants_for, refused_for, started_for, all_closed}
 use Rattle.txn_program.specs.declared.effects.Effect.{Effect}
@@ -168,7 +168,7 @@ module _ (s : Setting) (v : Valid s) (H : List Entry) (flight : List Mail) (g : 
   pub told_some : (who : Attempt) (ms : List Msg) → IsIn who.txn s.ids → (q : ℕ) × IsIn q (told s ms who)
   told_some who ms i = go (refused_for who ms) (s.accesses who.txn) (v.some who.txn i)
     where
-      go : (b : Bool) (as' : List Access) → 1 ≤ length as' → (q : ℕ) × IsIn q (cond b (parts_of s.parts (take_first (suc (length (grants_for who ms))) as')) (parts_of s.parts as'))
+      go : (b : Bool) (as' : List Access) → 1 ≤ length as' → (q : ℕ) × IsIn q (cond b (partitions_of s.parts (take_first (suc (length (grants_for who ms))) as')) (partitions_of s.parts as'))
       go b [] h = absurd (omega (arith, h))
       go true (a ∷ as') h = (partition_of a.key s.parts, parts_in s.parts a.key (a ∷ take_first (length (grants_for who ms)) as') v.parts (key_there a.key a.mode (a ∷ take_first (length (grants_for who ms)) as') (inl refl)))
       go false (a ∷ as') h = (partition_of a.key s.parts, parts_in s.parts a.key (a ∷ as') v.parts (key_there a.key a.mode (a ∷ as') (inl refl)))

@@ -81,8 +81,8 @@ module _ (s : Setting) (v : Valid s) (H : List Entry) (g : Good s H []) where
   pub same_commit : (l : Line) (f : Fact s v H [] g l) (a : Attempt) (n : Number) (p : ℕ) → l.number.id ≡ a.txn → IsIn (Commit a n) (heard p H) → (f.who ≡ a) × (l.number ≡ n)
   same_commit l f a n p e i = at.one f.who a l.number n f.place p (sym (ap (λ (z : Line). z.number.id) f.is) ∙ e) f.commit i
 
-  pub takes_part : (a : Attempt) (key : Key) (mode : Mode) → IsIn (record { key = key; mode = mode }) (s.accesses a.txn) → IsIn (part key) (participants s a)
-  takes_part a key mode i = parts_in s.parts key (s.accesses a.txn) v.parts (key_there key mode (s.accesses a.txn) i)
+  pub participates : (a : Attempt) (key : Key) (mode : Mode) → IsIn (record { key = key; mode = mode }) (s.accesses a.txn) → IsIn (part key) (participants s a)
+  participates a key mode i = parts_in s.parts key (s.accesses a.txn) v.parts (key_there key mode (s.accesses a.txn) i)
 
   committed : (l : Line) (f : Fact s v H [] g l) (q : ℕ) → IsIn q (participants s f.who) → IsIn (record { who = f.who; number = l.number }) (decided_in (hist q))
   committed l f q i = heard_decided s q (heard q H) f.who l.number (every f.who l.number f.place q f.commit i)
@@ -117,7 +117,7 @@ module _ (s : Setting) (v : Valid s) (H : List Entry) (g : Good s H []) where
   pub wrote_there : (l : Line) (f : Fact s v H [] g l) (key : Key) (row : Row) → IsIn (record { key = key; row = row }) (written (effect' f.who)) → Writes (hist (part key)) f.who key row × IsIn (part key) (participants s f.who)
   wrote_there l f key row i =
       let acc = v.writes f.who.txn (reads_of (s.accesses f.who.txn) (replies s H f.who)) (record { key = key; row = row }) i in
-      let p = takes_part f.who key acc.0 acc.2 in
+      let p = participates f.who key acc.0 acc.2 in
       let y = at.window f.who l.number f.place (part key) f.commit p in
       ((y.0, y.2, y.1, subst (IsIn (record { key = key; row = row })) (sym (vote_holds f.who (part key) y.0 y.1 y.2).0) (in_filter (λ (k : Keyed). eqb (partition_of k.key s.parts) (part key)) (record { key = key; row = row }) (written (effect' f.who)) i (same (part key)))), p)
 
@@ -158,7 +158,7 @@ module _ (s : Setting) (v : Valid s) (H : List Entry) (g : Good s H []) where
         key = h.3;
         row = h.5;
         reading = subst IsReading (sym md) c.2;
-        part_in = takes_part f.who r.key c.0.mode acc;
+        part_in = participates f.who r.key c.0.mode acc;
         table = v.tables f.who.txn (record { key = r.key; mode = c.0.mode }) acc;
       }
 

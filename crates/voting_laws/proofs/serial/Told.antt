@@ -12,7 +12,7 @@ use Rattle.server_core.specs.Ends.{attempt, all_undone}
 use Rattle.server_core.specs.Lines.{lines, sort_lines, giveups_of}
 use Rattle.server_core.specs.Proper.{Valid}
 use Rattle.server_core.specs.Runs.{heard}
-use Rattle.server_core.specs.Setting.{Setting, home, parts_of}
+use Rattle.server_core.specs.Setting.{Setting, home, partitions_of}
 use Rattle.server_core.specs.CalvinAtomic.{finished_number}
 use Rattle.server_core.specs.Told.{commit_number, numbers_at}
 use Rattle.server_core.specs.VotingAtomic.{Committed, commits}
@@ -82,15 +82,15 @@ module _ (s : Setting) (v : Valid s) (H : List Entry) (g : Good s H []) where
   own : (x : TxnId) (a : Attempt) (n : Number) → a.txn ≡ x → commits x (Commit a n) ≡ true
   own x a n e = subst (λ (y : TxnId). eqb a.txn.0 y.0 ≡ true) e (same_id a.txn.0)
 
-  committed_told : (x : TxnId) (c : Committed s H x) (p : ℕ) → numbers_at s H x p ≡ cond (list_any (λ q. eqb q p) (parts_of s.parts (s.accesses x))) (c.number ∷ []) []
-  committed_told x c p = only_commits x p ∙ go (list_any (λ q. eqb q p) (parts_of s.parts (s.accesses x))) refl
+  committed_told : (x : TxnId) (c : Committed s H x) (p : ℕ) → numbers_at s H x p ≡ cond (list_any (λ q. eqb q p) (partitions_of s.parts (s.accesses x))) (c.number ∷ []) []
+  committed_told x c p = only_commits x p ∙ go (list_any (λ q. eqb q p) (partitions_of s.parts (s.accesses x))) refl
     where
-      go : (b : Bool) → list_any (λ q. eqb q p) (parts_of s.parts (s.accesses x)) ≡ b → flat_map (commit_number x) (heard p H) ≡ cond b (c.number ∷ []) []
+      go : (b : Bool) → list_any (λ q. eqb q p) (partitions_of s.parts (s.accesses x)) ≡ b → flat_map (commit_number x) (heard p H) ≡ cond b (c.number ∷ []) []
       go true e =
-          let f = any_found (λ q. eqb q p) (parts_of s.parts (s.accesses x)) e in
-          let here : IsIn p (parts_of s.parts (s.accesses x)) = subst (λ q. IsIn q (parts_of s.parts (s.accesses x))) (is_same f.0 p f.2) f.1 in
+          let f = any_found (λ q. eqb q p) (partitions_of s.parts (s.accesses x)) e in
+          let here : IsIn p (partitions_of s.parts (s.accesses x)) = subst (λ q. IsIn q (partitions_of s.parts (s.accesses x))) (is_same f.0 p f.2) f.1 in
           one_told x c.attempt c.number (heard p H) (c.here p here) (own x c.attempt c.number c.own) (c.once p here)
-      go false e = none_told x (heard p H) (c.nowhere p (λ i. true≢false (sym (any_at (λ q. eqb q p) p (parts_of s.parts (s.accesses x)) i (same_id p)) ∙ e)))
+      go false e = none_told x (heard p H) (c.nowhere p (λ i. true≢false (sym (any_at (λ q. eqb q p) p (partitions_of s.parts (s.accesses x)) i (same_id p)) ∙ e)))
 
   -- a transaction that committed somewhere committed at its participants, with that number
   committed_with : (x : TxnId) (a : Attempt) (n : Number) (p : ℕ) → a.txn ≡ x → IsIn (Commit a n) (heard p H) → (c : Committed s H x) × (c.number ≡ n)
@@ -102,28 +102,28 @@ module _ (s : Setting) (v : Valid s) (H : List Entry) (g : Good s H []) where
     where
       same : (c : Committed s H x) → c.number ≡ n
       same c =
-          let told : n ∷ [] ≡ flat_map (commit_number x) (heard p H) = sym (one_told x a n (heard p H) i (own x a n e) (once (list_any (λ q. eqb q p) (parts_of s.parts (s.accesses x))) refl)) in
-          let there : flat_map (commit_number x) (heard p H) ≡ cond (list_any (λ q. eqb q p) (parts_of s.parts (s.accesses x))) (c.number ∷ []) [] = sym (only_commits x p) ∙ committed_told x c p in
-          pick (list_any (λ q. eqb q p) (parts_of s.parts (s.accesses x))) (told ∙ there)
+          let told : n ∷ [] ≡ flat_map (commit_number x) (heard p H) = sym (one_told x a n (heard p H) i (own x a n e) (once (list_any (λ q. eqb q p) (partitions_of s.parts (s.accesses x))) refl)) in
+          let there : flat_map (commit_number x) (heard p H) ≡ cond (list_any (λ q. eqb q p) (partitions_of s.parts (s.accesses x))) (c.number ∷ []) [] = sym (only_commits x p) ∙ committed_told x c p in
+          pick (list_any (λ q. eqb q p) (partitions_of s.parts (s.accesses x))) (told ∙ there)
         where
           pick : (b : Bool) → n ∷ [] ≡ cond b (c.number ∷ []) [] → c.number ≡ n
           pick true k = cc (k)
           pick false k = absurd (cc (k))
 
-          once : (b : Bool) → list_any (λ q. eqb q p) (parts_of s.parts (s.accesses x)) ≡ b → count_msgs (commits x) (heard p H) ≡ 1
-          once true k = let f = any_found (λ q. eqb q p) (parts_of s.parts (s.accesses x)) k in c.once p (subst (λ q. IsIn q (parts_of s.parts (s.accesses x))) (is_same f.0 p f.2) f.1)
+          once : (b : Bool) → list_any (λ q. eqb q p) (partitions_of s.parts (s.accesses x)) ≡ b → count_msgs (commits x) (heard p H) ≡ 1
+          once true k = let f = any_found (λ q. eqb q p) (partitions_of s.parts (s.accesses x)) k in c.once p (subst (λ q. IsIn q (partitions_of s.parts (s.accesses x))) (is_same f.0 p f.2) f.1)
           once false k =
               let some = msg_counted (commits x) (heard p H) (Commit a n) i (own x a n e) in
-              let none = c.nowhere p (λ j. true≢false (sym (any_at (λ q. eqb q p) p (parts_of s.parts (s.accesses x)) j (same_id p)) ∙ k)) in
+              let none = c.nowhere p (λ j. true≢false (sym (any_at (λ q. eqb q p) p (partitions_of s.parts (s.accesses x)) j (same_id p)) ∙ k)) in
               absurd (omega (arith, some, none))
 
-  pub decided_told : (l : Line) (p : ℕ) → IsIn l (sort_lines (lines s H)) → numbers_at s H l.number.id p ≡ cond (list_any (λ q. eqb q p) l.parts) (l.number ∷ []) []
+  pub decided_told : (l : Line) (p : ℕ) → IsIn l (sort_lines (lines s H)) → numbers_at s H l.number.id p ≡ cond (list_any (λ q. eqb q p) l.participants) (l.number ∷ []) []
   decided_told l p i =
       let f = facts s v H [] g l (sorted_in l (lines s H) i) in
       let is : f.who.txn ≡ l.number.id = sym (ap (λ (z : Line). z.number.id) f.is) in
       let c = committed_with l.number.id f.who l.number f.place is f.commit in
       committed_told l.number.id c.0 p
-      ∙ ap₂ (λ (qs : List ℕ) n. cond (list_any (λ q. eqb q p) qs) (n ∷ []) []) (ap (λ (y : TxnId). parts_of s.parts (s.accesses y)) (sym is) ∙ sym (ap (λ (z : Line). z.parts) f.is)) c.1
+      ∙ ap₂ (λ (qs : List ℕ) n. cond (list_any (λ q. eqb q p) qs) (n ∷ []) []) (ap (λ (y : TxnId). partitions_of s.parts (s.accesses y)) (sym is) ∙ sym (ap (λ (z : Line). z.participants) f.is)) c.1
 
   pub given_up_told : (k : Giveup) (p : ℕ) → IsIn k (giveups_of s H) → numbers_at s H k.id p ≡ []
   given_up_told k p i =

@@ -1,5 +1,5 @@
 use Rattle.std.proofs.Common.{◌≡◌, take, filter, ◌&&◌, None}
-use Rattle.server_core.specs.CalvinScheduler.{takes_part}
+use Rattle.server_core.specs.CalvinScheduler.{participates}
 use Rattle.server_core.specs.Roles.{setting_of}
 use Rattle.calvin_sched.specs.Asked.{all_free}
 use Rattle.calvin_sched.specs.Tables.{queue_at}
@@ -7,4 +7,4 @@ use Rattle.calvin_sched.proofs.node.CalvinNode.ready.Given as goal
 
 -- those so far that take part and are free
 abbrev pub invariant-loop-id : goal.invariant-loop-id
-invariant-loop-id l = l.ready.items ≡ filter (λ x. takes_part (setting_of l.self.role) x l.self.role.part && all_free (setting_of l.self.role) l.self.role.part (queue_at l.self.locks) x None) (take l.id-index l.ids)
+invariant-loop-id l = l.ready.items ≡ filter (λ x. participates (setting_of l.self.role) x l.self.role.part && all_free (setting_of l.self.role) l.self.role.part (queue_at l.self.locks) x None) (take l.id-index l.ids)

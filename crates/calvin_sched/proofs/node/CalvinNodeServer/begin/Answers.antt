@@ -4,7 +4,7 @@ use Rattle.txn_program.specs.Serial.{all_ids}
 use Rattle.server_core.specs.CalvinProper.{Valid}
 use Rattle.server_core.specs.Roles.{Role}
 use Rattle.server_core.specs.GlobalOrder.{epochs, number}
-use Rattle.server_core.specs.Setting.{Setting, setting, parts_for}
+use Rattle.server_core.specs.Setting.{Setting, setting, participants_for}
 use Rattle.server_core.proofs.configured.CalvinSettings as calvin
 use Rattle.server_core.specs.Roles.{role_of, setting_of}
 use Rattle.calvin_sched.proofs.Nodes.{batches_first, locks_first, arrivals_first, versions_first}
@@ -23,7 +23,7 @@ returns-clause-stands c =
       sequencer = c.in_ok-begin.ensures;
       fit = tt;
       numbers = c.in_ok-numbers_of.ensures c.args.config refl ∙ ap (λ (r : Role). map (number (setting r.config r.work)) (all_ids r.work)) (sym role);
-      counts = c.in_ok-participant_counts.ensures c.args.config refl ∙ ap (λ (r : Role). map (λ x. length (parts_for (setting r.config r.work) x)) (all_ids r.work)) (sym role);
+      counts = c.in_ok-participant_counts.ensures c.args.config refl ∙ ap (λ (r : Role). map (λ x. length (participants_for (setting r.config r.work) x)) (all_ids r.work)) (sym role);
       batches = batches_first s v a.part c.in_ok-begin-2.field-0 (c.in_ok-begin-2.ensures.0 ∙ ap (λ (n : ℕ). replicate {A = Option (List TxnId)} n None) count) c.in_ok-begin-2.ensures.1;
       locks = locks_first s v a.part c.new.result c.new.ensures;
       arrivals = arrivals_first s v a.part c.new-2.result c.new-2.ensures;
