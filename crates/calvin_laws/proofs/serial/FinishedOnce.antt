@@ -184,11 +184,10 @@ module _ (s : Setting) (x : TxnId) (p : ℕ) where
             go false = refl
 
     not_elsewhere : (IsIn p (parts_for s x) → ⊥) → (finishes s H x p ≡ []) × (finished_numbers s H x p ≡ [])
-    not_elsewhere out =
-        (
-          filter_none (λ (m : Mail). is_finished_of x m.msg) (all_said (says s) p (heard p H)) (said_by ∙ ap {B = ℕ} (λ b. cond b 1 0) (not_finished out)),
-          no_number (heard (home s x) H) (handled_by ∙ ap {B = ℕ} (λ b. cond b 1 0) (not_finished out)),
-        )
+    not_elsewhere out = (
+      filter_none (λ (m : Mail). is_finished_of x m.msg) (all_said (says s) p (heard p H)) (said_by ∙ ap {B = ℕ} (λ b. cond b 1 0) (not_finished out)),
+      no_number (heard (home s x) H) (handled_by ∙ ap {B = ℕ} (λ b. cond b 1 0) (not_finished out)),
+    )
 
     -- it comes to the home alone
     only_home : p ≢ home s x → filter (is_finished_of x) (heard p H) ≡ []
