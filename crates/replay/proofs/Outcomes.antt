@@ -1,5 +1,5 @@
 -- The rows of an outcome.
-use Rattle.std.proofs.Common.{◌≡◌, true, List, [], map, refl, sym, ap, ◌∙◌, subst}
+use Rattle.std.proofs.Common.{◌≡◌, true, List, [], refl}
 use Rattle.std.specs.List.{flat_map}
 use Rattle.deneva_base.specs.Rising.{keys_rise}
 use Rattle.deneva_base.specs.Rows.{row_of, row_or_empty, put_all, in_key_order}

@@ -47,5 +47,5 @@ pub fn calvin_premises_can_be_met()
     ensures ready { IsReady its_setting 1 (handled_after 14 1) (nth 2) }
     ensures access { IsIn (record { key = ycsb_key 1; mode = Read }) (its_setting.accesses (nth 2)) × (partition_of (ycsb_key 1) its_setting.parts ≡ 1) }
     ensures report { report_of by_calvin two_epochs Fifo
-        ≡ codes "deneva-report,1,calvin,2\ncommit,1,9,0,0.1\nread,0.1.0.0,a\nread,0.8.0.0,b\ncommit,2,10,0,1\nread,0.1.0.0,x\ncommit,3,11,0,1\nread,0.1.0.0,x\ncommit,4,12,0,1\nread,0.1.0.0,x\ncommit,5,13,0,1\nread,0.1.0.0,x\ncommit,6,14,0,1\nread,0.1.0.0,x\ncommit,7,15,0,1\nread,0.1.0.0,x\ncommit,8,16,0,1\nread,0.1.0.0,x\ncommit,9,25,0,1\nread,0.1.0.0,x\nrow,0.1.0.0,x\nrow,0.8.0.0,b\nend\n" }
+        ≡ codes "deneva-report,1,calvin,2\ncommit,9,1,0,0.1\nread,0.1.0.0,a\nread,0.8.0.0,b\ncommit,10,2,0,1\nread,0.1.0.0,x\ncommit,11,3,0,1\nread,0.1.0.0,x\ncommit,12,4,0,1\nread,0.1.0.0,x\ncommit,13,5,0,1\nread,0.1.0.0,x\ncommit,14,6,0,1\nread,0.1.0.0,x\ncommit,15,7,0,1\nread,0.1.0.0,x\ncommit,16,8,0,1\nread,0.1.0.0,x\ncommit,25,9,0,1\nread,0.1.0.0,x\nrow,0.1.0.0,x\nrow,0.8.0.0,b\nend\n" }
 {}

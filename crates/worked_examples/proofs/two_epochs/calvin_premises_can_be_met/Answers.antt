@@ -1,5 +1,5 @@
 -- Computed, but for the setting and what the laws give of it.
-use Rattle.std.proofs.Common.{refl, inl, inr, arith}
+use Rattle.std.proofs.Common.{refl, inl, arith}
 use Rattle.std.specs.Fmt.{digits}
 use Rattle.txn_program.specs.Valid.{IsValid}
 use Rattle.server_core.specs.CalvinProper.{Valid, Forms, Limits}
