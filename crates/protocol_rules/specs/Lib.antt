@@ -25,3 +25,4 @@ pub mod Protocols
 pub mod Leaving
 pub mod Causes
 pub mod Ends
+pub mod Left
