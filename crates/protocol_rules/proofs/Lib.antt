@@ -38,3 +38,4 @@ pub mod Causes
 pub mod Limits
 pub mod Greatest
 pub mod Ends
+pub mod Lefts

@@ -26,3 +26,4 @@ pub mod WaitsOf
 pub mod Leaving
 pub mod Causes
 pub mod Ends
+pub mod Left

@@ -2,8 +2,8 @@
 ghost use Rattle.std.specs.Prelude.{◌≡◌, ◌⊎◌, ◌+◌, ◌<◌, ◌≤◌, List, ℕ, ◌∷◌, [], false, true, Some};
 ghost use Rattle.std.specs.List.{list_any};
 ghost use Rattle.deneva_base.specs.Lists.{IsIn};
-ghost use Rattle.deneva_base.specs.Rows.{Rows};
-ghost use Rattle.protocol_rules.specs.History.{Call, History, Asked, Commit, Abort, waits};
+ghost use Rattle.deneva_base.specs.Rows.{Row, Rows};
+ghost use Rattle.protocol_rules.specs.History.{Call, History, Asked, Decided, Commit, Abort, waits};
 ghost use Rattle.protocol_rules.specs.Rules.{Obeys};
 ghost use Rattle.protocol_rules.specs.Windows.{KeepsWindows};
 ghost use Rattle.protocol_rules.specs.Wakes.{WakesOnce};
@@ -13,6 +13,8 @@ ghost use Rattle.protocol_rules.specs.WaitDie.{wait_die, queue, Falls, StandsBeh
 ghost use Rattle.protocol_rules.specs.Waiting.{holders, holds, older_writer};
 ghost use Rattle.protocol_rules.specs.Trying.{tries};
 ghost use Rattle.protocol_rules.specs.Latest.{Version, latest};
+ghost use Rattle.protocol_rules.specs.Leaving.{rows_left};
+ghost use Rattle.protocol_rules.specs.Left.{Leaves, IsGreatestLeft};
 ghost use Rattle.protocol_rules.specs.Versions.{written, start, greatest, below};
 ghost use Rattle.protocol_rules.specs.Timestamp.{timestamp, top_written};
 ghost use Rattle.protocol_rules.specs.Mvcc.{mvcc, writer_between};
@@ -106,9 +108,11 @@ pub fn protocols_are_served()
 {}
 
 /// The latest version of a key is the greatest of its committed writes and the loaded row, its n the greatest that was
-/// written, and it is the version below each stamp that is above them all.
+/// written, and it is the version below each stamp that is above them all. The row that a history leaves for a key is that
+/// of the greatest number among its committed writes and appends, and the loaded row where there is none.
 pub fn committed_writes_agree()
     ensures latest { (loaded : Rows) (h : History) (key : Key) → latest loaded h key ≡ greatest (start loaded key) (written h key) }
     ensures top { (loaded : Rows) (h : History) (key : Key) → (latest loaded h key).number.n ≡ top_written h key }
     ensures below { (loaded : Rows) (h : History) (key : Key) (stamp : ℕ) → ((v : Version) → IsIn v (written h key) → v.number.n < stamp) → below loaded h key stamp ≡ latest loaded h key }
+    ensures left { (loaded : Rows) (h : History) (key : Key) → ((row : Row) × IsGreatestLeft h key row × (rows_left loaded h key ≡ Some row)) ⊎ (((d : Decided) (row : Row) → Leaves h key d row → ⊥) × (rows_left loaded h key ≡ loaded key)) }
 {}

@@ -10,7 +10,7 @@ use Rattle.deneva_base.specs.declared.answers.Vote.TheVariants.{Yes, No}
 use Rattle.deneva_base.specs.Lists.{IsIn}
 use Rattle.deneva_base.specs.Rows.{Rows}
 use Rattle.deneva_base.specs.Modes.{reads}
-use Rattle.deneva_base.specs.Keys.{key_eq, attempt_eq, attempt_lt, number_lt}
+use Rattle.deneva_base.specs.Keys.{key_eq, attempt_eq, number_lt}
 use Rattle.protocol_rules.specs.Conditions.{MayPrepare}
 use Rattle.protocol_rules.specs.History.{Prepare, History, Grant, Yea, Decided, grants, yeas, decided, ended}
 use Rattle.protocol_rules.specs.Latest.{has_ended}
@@ -21,16 +21,16 @@ use Rattle.range_control.specs.declared.ends.Upper.{Upper}
 use Rattle.range_control.specs.declared.accesses.Window.{Window}
 use Rattle.range_control.specs.declared.accesses.Held.{Held}
 use Rattle.range_control.specs.declared.table.Table.{Table}
-use Rattle.range_control.specs.Ends.{upper_before, first_of, first_by}
+use Rattle.range_control.specs.Ends.{upper_before}
 use Rattle.range_control.specs.Seen.{Accesses}
 use Rattle.range_control.specs.Accesses.{prepared_in}
 use Rattle.range_control.specs.Tables.{prepared_at}
 use Rattle.range_control.specs.Changes.{VotesYes, Votes}
 use Rattle.range_control.specs.Standing.{State, state_of, is_held, held_here, window_in, under_decided, held_of, Tracks}
-use Rattle.range_control.proofs.Firsts.{first_more, first_same}
+use Rattle.range_control.proofs.Firsts.{first_same}
 use Rattle.range_control.proofs.Lists.{map_both}
 use Rattle.range_control.proofs.Histories.{wrote_other}
-use Rattle.range_control.proofs.Holders.{reverse-cons, reverse_in, own_cases, real}
+use Rattle.range_control.proofs.Holders.{reverse_in, own_cases, real}
 use Rattle.shelf.specs.Shelves.{held}
 use Rattle.shelf.proofs.Keeps.{keeps_promised, keeps_no}
 use Rattle.range_control.proofs.Changing.{changed_is, prepared_twice, prepared_none}
