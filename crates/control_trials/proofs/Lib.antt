@@ -1,4 +1,2 @@
-pub mod Checks
 pub mod TwoRows
-pub mod Listing
-pub mod Preparing
+pub mod Logs

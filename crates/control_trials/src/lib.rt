@@ -1,13 +1,12 @@
-//! Trials of controls: lists of calls, each of which meets its conditions. Lock controls have to agree on them with a plain
-//! body that scans a list of all accesses; for others the answers are written out.
+//! Trials of controls: calls drawn at random, on which each control has to agree with a plain body that reads its rule off a
+//! list of all calls before.
 #![tactic(auto)]
 
+mod draws;
+mod log;
 mod plain;
 mod steps;
 mod stores;
 #[cfg(test)]
 mod tests;
-
-use plain::Plain;
-use steps::{Said, Step, attempt, key, said_to};
-use stores::two_rows;
+mod trials;

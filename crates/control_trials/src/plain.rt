@@ -1,13 +1,28 @@
-//! The plain body: a list of all accesses that were ever asked for, which each call scans.
+//! The plain body: lists of all accesses, rows and fates that ever were, which each call scans by the text of its rule.
 
-use crate::steps::{Said, Step, attempt, key};
+mod ranges;
+mod rules;
+mod wakes;
+
+use crate::steps::{Cells, Effect, Said, Step, key};
 use deneva_base::{
-    Answer, Attempt, Cause, Cell, CellList, Key, Keyed, Mode, NoMemory, Number, Row, RowList,
-    TxnId, Vote, Wake, Woken,
+    Answer, Attempt, Cell, CellList, Key, Keyed, Mode, NoMemory, Number, Row, RowList, TxnId, Vote,
 };
 use std::alloc::Global;
 
-/// An access that was not refused. `ended` is the number under which its attempt committed, 0 where it aborted.
+/// Whose rule the plain body reads.
+#[derive(Clone, Copy, Debug)]
+pub(crate) enum Rule {
+    NoWait,
+    WaitDie,
+    Timestamp,
+    /// With so many versions kept of a key, all for 0.
+    Mvcc(usize),
+    /// With windows of at most so many numbers.
+    Maat(u64),
+}
+
+/// An access that was not refused, with the version that it reads once it is granted.
 #[derive(Clone, Copy, Debug)]
 struct Asked {
     who: Attempt,
@@ -15,8 +30,7 @@ struct Asked {
     key: Key,
     mode: Mode,
     waits: bool,
-    written: Option<u32>,
-    ended: Option<u64>,
+    version: Number,
 }
 
 impl Asked {
@@ -25,271 +39,199 @@ impl Asked {
             && self.who != other.who
             && (self.mode.is_writing() || other.mode.is_writing())
     }
-
-    fn is_owner(&self) -> bool {
-        !self.waits && self.ended.is_none()
-    }
 }
 
-/// Two-phase locking on the keys 0 and 1, whose rows have the numbers 100 and 101: NO_WAIT, or WAIT_DIE where it dies.
+/// A row of one number that an attempt is to write or append.
+#[derive(Clone, Copy, Debug)]
+struct Written {
+    who: Attempt,
+    key: Key,
+    cell: u32,
+}
+
+/// What became of an attempt.
+#[derive(Clone, Copy, Debug)]
+enum Fate {
+    Running,
+    /// It voted for these numbers.
+    Prepared(u64, u64),
+    Committed(Number),
+    Aborted,
+}
+
 #[derive(Drop)]
 pub(crate) struct Plain {
-    dies: bool,
+    rule: Rule,
     accesses: Vec<Asked>,
+    written: Vec<Written>,
+    fates: Vec<(Attempt, Fate)>,
 }
 
 impl Plain {
-    pub(crate) fn new(alloc: Global, dies: bool) -> Plain {
+    pub(crate) fn new(alloc: Global, rule: Rule) -> Plain {
         Plain {
-            dies,
+            rule,
             accesses: Vec::new(alloc),
+            written: Vec::new(alloc),
+            fates: Vec::new(alloc),
         }
     }
 
-    /// Whether this is what comes of these calls, one after another.
+    /// Whether this is what comes of a call.
     pub(crate) fn agrees(
         &mut self,
         alloc: Global,
-        steps: &[Step],
-        said: &[Said],
+        step: Step,
+        said: &Said,
     ) -> Result<bool, NoMemory> {
-        for (step, said) in steps.iter().zip(said) {
-            if !self.agrees_once(alloc, *step, said)? {
-                return Ok(false);
-            }
-        }
-        Ok(steps.len() == said.len())
-    }
-
-    fn agrees_once(&mut self, alloc: Global, step: Step, said: &Said) -> Result<bool, NoMemory> {
         match (step, said) {
-            (Step::Ask(txn, turn, stamp, a, mode), Said::Answer(answer)) => {
-                let plain = self.ask(alloc, attempt(txn, turn), stamp, key(a), mode)?;
-                Ok(plain == *answer)
+            (Step::Ask(who, stamp, a, mode), Said::Answer(answer)) => {
+                let asked = Asked {
+                    who,
+                    stamp,
+                    key: key(a),
+                    mode,
+                    waits: false,
+                    version: LOADED,
+                };
+                Ok(self.ask(alloc, asked)? == *answer)
             }
-            (Step::Prepare(txn, turn, _), Said::Vote(vote)) => {
-                Ok(self.vote(attempt(txn, turn)) == *vote)
+            (Step::Prepare(who, n, effect), Said::Vote(vote)) => {
+                Ok(self.prepare(who, n, effect)? == *vote)
             }
-            (Step::Write(txn, turn, _, a, cell), Said::Vote(vote)) => {
-                let who = attempt(txn, turn);
-                self.write(who, key(a), cell);
-                Ok(self.vote(who) == *vote)
+            (Step::Commit(who, n), Said::Ended(woken, waiting)) => {
+                let number = Number { n, id: who.txn };
+                let wakes = self.end(alloc, who, Fate::Committed(number))?;
+                Ok(wakes == *woken && self.waiting() == *waiting)
             }
-            (Step::Commit(txn, turn, n), Said::Ended(woken, waiting)) => {
-                let same = self.end(alloc, attempt(txn, turn), Some(n), woken)?;
-                Ok(same && self.waiting() == *waiting)
-            }
-            (Step::Abort(txn, turn), Said::Ended(woken, waiting)) => {
-                let same = self.end(alloc, attempt(txn, turn), None, woken)?;
-                Ok(same && self.waiting() == *waiting)
+            (Step::Abort(who), Said::Ended(woken, waiting)) => {
+                let wakes = self.end(alloc, who, Fate::Aborted)?;
+                Ok(wakes == *woken && self.waiting() == *waiting)
             }
             _ => Ok(false),
         }
     }
 
-    /// The least owner that conflicts, and under WAIT_DIE is older.
-    fn least_bar(&self, asked: &Asked) -> Option<Asked> {
-        let mut least: Option<Asked> = None;
-        for access in &self.accesses {
-            let bars = access.is_owner() && access.conflicts(asked);
-            if bars && (!self.dies || access.stamp < asked.stamp) {
-                least = match least {
-                    Some(found) if found.who < access.who => Some(found),
-                    _ => Some(*access),
-                };
-            }
+    fn ask(&mut self, alloc: Global, mut asked: Asked) -> Result<Answer, NoMemory> {
+        if let Some(cause) = self.refusal(&asked) {
+            return Ok(Answer::Refused(cause));
         }
-        least
-    }
-
-    /// Whether no owner conflicts, and no access that waits and has a greater stamp.
-    fn is_free(&self, asked: &Asked) -> bool {
-        for access in &self.accesses {
-            let counts = access.is_owner() || (access.waits && access.stamp > asked.stamp);
-            if counts && access.conflicts(asked) {
-                return false;
-            }
-        }
-        true
-    }
-
-    fn ask(
-        &mut self,
-        alloc: Global,
-        who: Attempt,
-        stamp: u64,
-        key: Key,
-        mode: Mode,
-    ) -> Result<Answer, NoMemory> {
-        let mut asked = Asked {
-            who,
-            stamp,
-            key,
-            mode,
-            waits: false,
-            written: None,
-            ended: None,
-        };
-        if let Some(bar) = self.least_bar(&asked) {
-            let by = bar.who;
-            let age = bar.stamp;
-            return Ok(Answer::Refused(if self.dies {
-                Cause::Younger { key, by, age }
-            } else {
-                Cause::Held { key, by }
-            }));
-        }
-        asked.waits = !self.is_free(&asked);
+        asked.waits = self.has_to_wait(&asked);
+        let (row, version) = self.read(alloc, &asked)?;
+        asked.version = version;
+        let bound = self.bound(&asked);
         self.accesses.push(asked)?;
         if asked.waits {
             return Ok(Answer::Waits);
         }
-        let (row, version) = self.read(alloc, key, mode)?;
         Ok(Answer::Granted {
             row,
             version,
-            bound: 0,
+            bound,
         })
     }
 
-    /// What an access reads: the row of the greatest committed write, or the loaded one.
-    fn read(&self, alloc: Global, key: Key, mode: Mode) -> Result<(Row, Number), NoMemory> {
-        let mut version = Number { n: 0, id: TxnId(0) };
-        if !mode.is_reading() {
-            return Ok((Row::empty(alloc)?, version));
+    fn prepare(&mut self, who: Attempt, n: u64, effect: Effect) -> Result<Vote, NoMemory> {
+        let vote = self.vote(who, n, effect.writes);
+        if let Vote::Yes { lo, hi } = vote {
+            self.fates.push((who, Fate::Prepared(lo, hi)))?;
+            self.write(who, 0, effect.writes)?;
+            self.write(who, 5, effect.appends)?;
         }
-        let mut cell = 100 + key.a as i64;
-        for access in &self.accesses {
-            let number = Number {
-                n: access.ended.unwrap_or(0),
-                id: access.who.txn,
-            };
-            if let Some(written) = access.written {
-                if number.n > 0 && access.key == key && number > version {
-                    version = number;
-                    cell = i64::from(written);
+        Ok(vote)
+    }
+
+    /// Notes the rows of a prepared attempt.
+    fn write(&mut self, who: Attempt, table: u8, cells: Cells) -> Result<(), NoMemory> {
+        for (a, cell) in [(0, cells.first), (1, cells.second)] {
+            if let Some(cell) = cell {
+                let key = row_key(table, a);
+                self.written.push(Written { who, key, cell })?;
+            }
+        }
+        Ok(())
+    }
+
+    /// What became of an attempt: the last of what is noted.
+    fn fate(&self, who: Attempt) -> Fate {
+        let mut last = Fate::Running;
+        for (other, fate) in &self.fates {
+            if *other == who {
+                last = *fate;
+            }
+        }
+        last
+    }
+
+    fn is_owner(&self, access: &Asked) -> bool {
+        !access.waits && matches!(self.fate(access.who), Fate::Running | Fate::Prepared(_, _))
+    }
+
+    /// The committed row of the greatest number with an `n` below this one.
+    fn latest(&self, key: Key, below: u64) -> Option<(Number, u32)> {
+        let mut latest: Option<(Number, u32)> = None;
+        for written in &self.written {
+            if let Fate::Committed(number) = self.fate(written.who) {
+                let later = latest.map_or(true, |found| found.0 < number);
+                if written.key == key && number.n < below && later {
+                    latest = Some((number, written.cell));
                 }
             }
         }
-        let mut cells = CellList::new(alloc);
-        cells.push(Cell::Num(cell))?;
-        Ok((Row::of(alloc, cells)?, version))
+        latest
+    }
+
+    /// What an access reads.
+    fn read(&self, alloc: Global, asked: &Asked) -> Result<(Row, Number), NoMemory> {
+        if !asked.mode.is_reading() {
+            return Ok((Row::empty(alloc)?, LOADED));
+        }
+        let below = match self.rule {
+            Rule::Timestamp | Rule::Mvcc(_) => asked.stamp,
+            _ => u64::MAX,
+        };
+        match self.latest(asked.key, below) {
+            Some((number, cell)) => Ok((row_of(alloc, i64::from(cell))?, number)),
+            None => Ok((row_of(alloc, 100 + i64::from(asked.key.a))?, LOADED)),
+        }
     }
 
     /// The rows in key order.
     pub(crate) fn rows(&self, alloc: Global) -> Result<RowList, NoMemory> {
         let mut rows = RowList::new(alloc);
-        for a in 0..2 {
-            let key = Key {
-                table: 0,
-                a,
-                b: 0,
-                c: 0,
-            };
-            let (row, _) = self.read(alloc, key, Mode::Read)?;
-            rows.push(Keyed { key, row })?;
+        for (table, a) in [(0, 0), (0, 1), (5, 0), (5, 1)] {
+            let key = row_key(table, a);
+            if let Some((_, cell)) = self.latest(key, u64::MAX) {
+                let row = row_of(alloc, i64::from(cell))?;
+                rows.push(Keyed { key, row })?;
+            } else if table == 0 {
+                let row = row_of(alloc, 100 + i64::from(a))?;
+                rows.push(Keyed { key, row })?;
+            }
         }
         Ok(rows)
-    }
-
-    /// Notes that the attempt is to commit a row of this cell for the key.
-    fn write(&mut self, who: Attempt, key: Key, cell: u32) {
-        for place in 0..self.accesses.len() {
-            let access = self.accesses[place];
-            if access.who == who && access.key == key {
-                self.accesses[place].written = Some(cell);
-            }
-        }
-    }
-
-    /// The vote of an attempt.
-    fn vote(&self, who: Attempt) -> Vote {
-        let mut floor = 0;
-        for mine in &self.accesses {
-            if mine.who == who {
-                floor = floor.max(self.floor(mine));
-            }
-        }
-        Vote::Yes {
-            lo: floor.saturating_add(1),
-            hi: 1 << 63,
-        }
-    }
-
-    /// The greatest number of a committed access that conflicted with this one.
-    fn floor(&self, mine: &Asked) -> u64 {
-        let mut floor = 0;
-        for access in &self.accesses {
-            if let Some(n) = access.ended {
-                if access.conflicts(mine) {
-                    floor = floor.max(n);
-                }
-            }
-        }
-        floor
-    }
-
-    /// Ends an attempt, and grants who waited for it: whether these are the wakes.
-    fn end(
-        &mut self,
-        alloc: Global,
-        who: Attempt,
-        n: Option<u64>,
-        woken: &Woken,
-    ) -> Result<bool, NoMemory> {
-        for place in 0..self.accesses.len() {
-            if self.accesses[place].who == who {
-                self.accesses[place].ended = Some(n.unwrap_or(0));
-            }
-        }
-        for wake in woken.as_slice() {
-            if !self.wakes(alloc, wake)? {
-                return Ok(false);
-            }
-        }
-        Ok(self.next_free().is_none())
-    }
-
-    /// Grants the first access that waits and is free: whether this is its wake.
-    fn wakes(&mut self, alloc: Global, wake: &Wake) -> Result<bool, NoMemory> {
-        match self.next_free() {
-            Some(place) if place < self.accesses.len() => {
-                let access = self.accesses[place];
-                self.accesses[place].waits = false;
-                let (row, version) = self.read(alloc, access.key, access.mode)?;
-                let same = access.who == wake.who && access.key == wake.key;
-                Ok(same && row == wake.row && version == wake.version)
-            }
-            _ => Ok(false),
-        }
-    }
-
-    /// The place of the first access that waits and is free: the one of the least key, and of the greatest stamp.
-    fn next_free(&self) -> Option<usize> {
-        let mut first: Option<usize> = None;
-        for place in 0..self.accesses.len() {
-            let access = self.accesses[place];
-            if access.waits && self.is_free(&access) {
-                first = match first {
-                    Some(found) if found < self.accesses.len() && self.is_before(found, &access) =>
-                        Some(found),
-                    _ => Some(place),
-                };
-            }
-        }
-        first
-    }
-
-    fn is_before(&self, place: usize, access: &Asked) -> bool {
-        match self.accesses.get(place) {
-            Some(found) => found.key < access.key
-                || (found.key == access.key && found.stamp > access.stamp),
-            None => false,
-        }
     }
 
     /// How many accesses wait.
     fn waiting(&self) -> usize {
         self.accesses.iter().filter(|access| access.waits).count()
     }
+}
+
+/// The number of a loaded row.
+const LOADED: Number = Number { n: 0, id: TxnId(0) };
+
+fn row_key(table: u8, a: u32) -> Key {
+    Key {
+        table,
+        a,
+        b: 0,
+        c: 0,
+    }
+}
+
+fn row_of(alloc: Global, cell: i64) -> Result<Row, NoMemory> {
+    let mut cells = CellList::new(alloc);
+    cells.push(Cell::Num(cell))?;
+    Row::of(alloc, cells)
 }

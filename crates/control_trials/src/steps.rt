@@ -1,10 +1,10 @@
-//! Lists of calls, and what a control says to them.
-ghost use Rattle.std.specs.Prelude.{◌≡◌, [], ◌∷◌, IfOk, OnOk};
-ghost use Rattle.protocol_rules.specs.Conditions.{MayPrepare};
-ghost use Rattle.protocol_rules.specs.History.{History};
+//! Calls of a control, each of which is made only where it meets its conditions, and what the control says to them.
+ghost use Rattle.std.specs.Prelude.{◌≡◌, [], ◌∷◌, ◌++◌, IfOk, OnOk};
 ghost use Rattle.deneva_base.specs.Rows.{Rows};
-ghost use Rattle.control_trials.specs.Trials.{attempt_of, trial_key, trial_row, bound_of, MayStep, Allowed, answered, all_answered, voted};
+ghost use Rattle.protocol_rules.specs.History.{History};
+ghost use Rattle.control_trials.specs.Trials.{attempt_of, key_in, trial_key, bound_of, rows_at, rows_of, IsKept};
 
+use crate::log::{Log, Wanted};
 use control_core::Control;
 use deneva_base::{
     Answer, Attempt, Bound, Cell, CellList, Key, Keyed, Mode, NoMemory, Number, Row, RowList,
@@ -12,18 +12,30 @@ use deneva_base::{
 };
 use std::alloc::Global;
 
-/// A call of an attempt, by the place of its transaction and its turn.
+/// The numbers of the rows for the keys 0 and 1 of a table.
+#[derive(Clone, Copy, Debug)]
+pub(crate) struct Cells {
+    pub(crate) first: Option<u32>,
+    pub(crate) second: Option<u32>,
+}
+
+/// The rows of table 0 that an attempt writes, and those of table 5 that it appends.
+#[derive(Clone, Copy, Debug)]
+pub(crate) struct Effect {
+    pub(crate) writes: Cells,
+    pub(crate) appends: Cells,
+}
+
+/// A call of an attempt.
 #[derive(Clone, Copy, Debug)]
 pub(crate) enum Step {
     /// With its stamp, asks for the key of this number in table 0.
-    Ask(u32, u8, u64, u32, Mode),
+    Ask(Attempt, u64, u32, Mode),
     /// With this bound.
-    Prepare(u32, u8, u64),
-    /// Prepares with this bound and a row of one cell, for the key of this number.
-    Write(u32, u8, u64, u32, u32),
+    Prepare(Attempt, u64, Effect),
     /// Under the number of this `n`.
-    Commit(u32, u8, u64),
-    Abort(u32, u8),
+    Commit(Attempt, u64),
+    Abort(Attempt),
 }
 
 /// What came of a call.
@@ -33,6 +45,8 @@ pub(crate) enum Said {
     Vote(Vote),
     /// Who was woken by an end, and how many accesses wait after it.
     Ended(Woken, usize),
+    /// The call was not made: it does not meet its conditions.
+    Nothing,
 }
 
 pub(crate) fn attempt(txn: u32, turn: u8) -> Attempt
@@ -55,103 +69,147 @@ pub(crate) fn key(a: u32) -> Key
     }
 }
 
-/// A row of one cell, for the key of this number.
-fn written(alloc: Global, a: u32, cell: u32) -> Result<RowList, NoMemory>
-    ensures { IfOk result (λ rows. rows ≡ trial_row a cell ∷ []) }
-{
-    let mut cells = CellList::new(alloc);
-    cells.push(Cell::Num(i64::from(cell)))?;
-    let row = Row::of(alloc, cells)?;
-    let mut rows = RowList::new(alloc);
-    rows.push(Keyed { key: key(a), row })?;
-    Ok(rows)
-}
-
 fn bound(n: u64) -> Bound
     ensures { result ≡ bound_of n }
 {
     Bound { n, key: key(0) }
 }
 
-/// Puts what a control says to these calls, one after another, at the end of `all`.
-fn say_all<C: Control>(
+/// Puts a row of one number at the end, if there is one.
+fn push_row(
     alloc: Global,
-    control: &mut C,
-    steps: &[Step],
-    all: &mut Vec<Said>,
+    table: u8,
+    a: u32,
+    cell: Option<u32>,
+    rows: &mut RowList,
 ) -> Result<(), NoMemory>
-    requires allowed { (loaded : Rows) × (h : History) × C.stands control.old loaded h × Allowed loaded (C.rule loaded) h steps.now }
-    ensures { OnOk result ((loaded : Rows) (h : History) → C.stands control.old loaded h → Allowed loaded (C.rule loaded) h steps.now → C.stands control.new loaded (all_answered (C.rule loaded) h steps.now)) }
+    ensures { OnOk result (rows.new ≡ rows.old ++ rows_at table a cell) }
 {
-    let [step, later @ ..] = steps else {
-        return Ok(());
-    };
-    all.push(said_once(alloc, control, *step)?)?;
-    say_all(alloc, control, later, all)
-}
-
-/// What a control says to these calls, one after another.
-pub(crate) fn said_to<C: Control>(
-    alloc: Global,
-    control: &mut C,
-    steps: &[Step],
-) -> Result<Vec<Said>, NoMemory>
-    requires allowed { (loaded : Rows) × (h : History) × C.stands control.old loaded h × Allowed loaded (C.rule loaded) h steps.now }
-    ensures { OnOk result ((loaded : Rows) (h : History) → C.stands control.old loaded h → Allowed loaded (C.rule loaded) h steps.now → C.stands control.new loaded (all_answered (C.rule loaded) h steps.now)) }
-{
-    let mut all = Vec::new(alloc);
-    say_all(alloc, control, steps, &mut all)?;
-    Ok(all)
-}
-
-fn said_once<C: Control>(alloc: Global, control: &mut C, step: Step) -> Result<Said, NoMemory>
-    requires allowed { (loaded : Rows) × (h : History) × C.stands control.old loaded h × MayStep loaded h step }
-    ensures { OnOk result ((loaded : Rows) (h : History) → C.stands control.old loaded h → MayStep loaded h step → C.stands control.new loaded (answered (C.rule loaded) h step)) }
-{
-    match step {
-        Step::Ask(txn, turn, stamp, a, mode) => {
-            let answer = control.ask(attempt(txn, turn), stamp, key(a), mode)?;
-            Ok(Said::Answer(answer))
-        }
-        Step::Prepare(txn, turn, n) => {
-            let writes = RowList::new(alloc);
-            said_to_vote(alloc, control, txn, turn, n, writes)
-        }
-        Step::Write(txn, turn, n, a, cell) => {
-            let writes = written(alloc, a, cell)?;
-            said_to_vote(alloc, control, txn, turn, n, writes)
-        }
-        Step::Commit(txn, turn, n) => {
-            let who = attempt(txn, turn);
-            let number = Number { n, id: who.txn };
-            let mut woken = Woken::new(alloc);
-            control.commit(who, number, &mut woken)?;
-            Ok(Said::Ended(woken, control.waiting()))
-        }
-        Step::Abort(txn, turn) => {
-            let who = attempt(txn, turn);
-            let mut woken = Woken::new(alloc);
-            control.abort(who, &mut woken)?;
-            Ok(Said::Ended(woken, control.waiting()))
-        }
+    if let Some(cell) = cell {
+        let mut cells = CellList::new(alloc);
+        cells.push(Cell::Num(i64::from(cell)))?;
+        let row = Row::of(alloc, cells)?;
+        let key = Key {
+            table,
+            a,
+            b: 0,
+            c: 0,
+        };
+        rows.push(Keyed { key, row })?;
     }
+    Ok(())
 }
 
-/// The vote on an attempt that is to commit these rows.
-fn said_to_vote<C: Control>(
+pub(crate) fn rows_with(alloc: Global, table: u8, cells: Cells) -> Result<RowList, NoMemory>
+    ensures { IfOk result (λ rows. rows ≡ rows_of table cells) }
+{
+    let mut rows = RowList::new(alloc);
+    push_row(alloc, table, 0, cells.first, &mut rows)?;
+    push_row(alloc, table, 1, cells.second, &mut rows)?;
+    Ok(rows)
+}
+
+fn ask<C: Control>(
+    control: &mut C,
+    log: &mut Log,
+    who: Attempt,
+    stamp: u64,
+    a: u32,
+    mode: Mode,
+) -> Result<Said, NoMemory>
+    requires kept { IsKept (C.stands control.old) log.old }
+    ensures { OnOk result (IsKept (C.stands control.new) log.new) }
+{
+    if !log.may_ask(who, stamp, a) {
+        return Ok(Said::Nothing);
+    }
+    let key = key(a);
+    let answer = control.ask(who, stamp, key, mode)?;
+    let wanted = Wanted {
+        who,
+        stamp,
+        key,
+        mode,
+    };
+    log.note_ask(wanted, &answer)?;
+    Ok(Said::Answer(answer))
+}
+
+fn prepare<C: Control>(
     alloc: Global,
     control: &mut C,
-    txn: u32,
-    turn: u8,
+    log: &mut Log,
+    who: Attempt,
     n: u64,
-    writes: RowList,
+    effect: Effect,
 ) -> Result<Said, NoMemory>
-    requires allowed { (loaded : Rows) × (h : History) × C.stands control.old loaded h × MayPrepare h (attempt_of txn turn) (bound_of n) writes [] }
-    ensures { OnOk result ((loaded : Rows) (h : History) → C.stands control.old loaded h → MayPrepare h (attempt_of txn turn) (bound_of n) writes [] → C.stands control.new loaded (voted (C.rule loaded) h txn turn n writes)) }
+    requires kept { IsKept (C.stands control.old) log.old }
+    ensures { OnOk result (IsKept (C.stands control.new) log.new) }
 {
-    let who = attempt(txn, turn);
-    let Ok(vote) = control.prepare(who, bound(n), writes, RowList::new(alloc)) else {
+    if !log.may_prepare(who, n, effect.writes) {
+        return Ok(Said::Nothing);
+    }
+    let written = rows_with(alloc, 0, effect.writes)?;
+    let appended = rows_with(alloc, 5, effect.appends)?;
+    let Ok(vote) = control.prepare(who, bound(n), written, appended) else {
         return Err(NoMemory);
     };
+    log.note_prepare(who, vote)?;
     Ok(Said::Vote(vote))
+}
+
+fn commit<C: Control>(
+    alloc: Global,
+    control: &mut C,
+    log: &mut Log,
+    who: Attempt,
+    n: u64,
+) -> Result<Said, NoMemory>
+    requires kept { IsKept (C.stands control.old) log.old }
+    ensures { OnOk result (IsKept (C.stands control.new) log.new) }
+{
+    if !log.may_commit(who, n) {
+        return Ok(Said::Nothing);
+    }
+    let number = Number { n, id: who.txn };
+    let mut woken = Woken::new(alloc);
+    control.commit(who, number, &mut woken)?;
+    log.note_commit(who, woken.as_slice())?;
+    Ok(Said::Ended(woken, control.waiting()))
+}
+
+fn abort<C: Control>(
+    alloc: Global,
+    control: &mut C,
+    log: &mut Log,
+    who: Attempt,
+) -> Result<Said, NoMemory>
+    requires kept { IsKept (C.stands control.old) log.old }
+    ensures { OnOk result (IsKept (C.stands control.new) log.new) }
+{
+    if !log.may_abort(who) {
+        return Ok(Said::Nothing);
+    }
+    let mut woken = Woken::new(alloc);
+    control.abort(who, &mut woken)?;
+    log.note_abort(who, woken.as_slice())?;
+    Ok(Said::Ended(woken, control.waiting()))
+}
+
+/// What a control says to a call, where it meets its conditions.
+pub(crate) fn said_once<C: Control>(
+    alloc: Global,
+    control: &mut C,
+    log: &mut Log,
+    step: Step,
+) -> Result<Said, NoMemory>
+    requires kept { IsKept (C.stands control.old) log.old }
+    ensures { OnOk result (IsKept (C.stands control.new) log.new) }
+{
+    match step {
+        Step::Ask(who, stamp, a, mode) => ask(control, log, who, stamp, a, mode),
+        Step::Prepare(who, n, effect) => prepare(alloc, control, log, who, n, effect),
+        Step::Commit(who, n) => commit(alloc, control, log, who, n),
+        Step::Abort(who) => abort(alloc, control, log, who),
+    }
 }

@@ -1,16 +1,41 @@
-//! Lists of calls, each of which meets its conditions: some drawn at random, and some whose answers are written out.
+//! Each control against the plain body of its rule on calls drawn at random, and on a few calls whose answers are written out.
 
-use super::*;
+use crate::plain::Rule;
+use crate::steps::{Cells, Effect, Said, Step, attempt, key};
+use crate::stores::two_rows;
+use crate::trials::{said_to, trial};
 use chain_control::Chains;
 use control_core::Control;
 use deneva_base::{
-    Answer, Cause, Cell, CellList, Keyed, Mode, NoMemory, Number, Row, TxnId, Vote, Wake, Woken,
+    Answer, Cause, Cell, CellList, Key, Keyed, Mode, NoMemory, Number, Row, RowList, TxnId, Vote,
+    Wake, Woken,
 };
 use lock_control::Locks;
 use range_control::Ranges;
 use stamp_control::Stamps;
 use std::alloc::Global;
 use std::test::Fail;
+
+const NONE: Cells = Cells {
+    first: None,
+    second: None,
+};
+
+const NOTHING: Effect = Effect {
+    writes: NONE,
+    appends: NONE,
+};
+
+/// Writes a row of this number for key 0.
+fn writes(cell: u32) -> Effect {
+    Effect {
+        writes: Cells {
+            first: Some(cell),
+            second: None,
+        },
+        appends: NONE,
+    }
+}
 
 /// A row of one cell, or of none.
 fn row_of(alloc: Global, cell: Option<i64>) -> Result<Row, NoMemory> {
@@ -64,132 +89,178 @@ fn ends(alloc: Global, waiting: usize) -> Said {
 }
 
 #[test]
-fn no_wait_on_calls_1(rt: HostRuntime) -> Result<(), Fail> {
-    let alloc = rt.alloc();
-    let mut locks = Locks::<0>::begin(two_rows(alloc)?)?;
-    let mut plain = Plain::new(alloc, false);
-    let steps = [
-        Step::Ask(1, 1, 48, 0, Mode::Update),
-        Step::Ask(4, 1, 25, 1, Mode::Put),
-        Step::Write(4, 1, 0, 1, 11),
-        Step::Commit(4, 1, 1),
-        Step::Ask(2, 1, 57, 1, Mode::Put),
-        Step::Write(1, 1, 0, 0, 12),
-        Step::Commit(1, 1, 2),
-        Step::Ask(2, 1, 57, 0, Mode::Read),
-        Step::Write(2, 1, 0, 1, 13),
-        Step::Ask(3, 1, 47, 0, Mode::Read),
-        Step::Ask(5, 1, 54, 0, Mode::Read),
-        Step::Ask(3, 1, 47, 1, Mode::Update),
-        Step::Abort(3, 1),
-        Step::Ask(5, 1, 54, 1, Mode::Update),
-        Step::Ask(3, 2, 47, 1, Mode::Read),
-        Step::Abort(5, 1),
-    ];
-    let said = said_to(alloc, &mut locks, &steps)?;
-    assert!(rt; plain.agrees(alloc, &steps, &said)?);
-    assert_eq!(rt; locks.rows()?, plain.rows(alloc)?);
+fn no_wait_is_its_rule(rt: HostRuntime) -> Result<(), Fail> {
+    let met = trial::<Locks<0>>(rt.alloc(), Rule::NoWait)?.expect(&rt, "a seed");
+    assert!(rt; met.held > 0 && met.commits > 0 && met.waits == 0);
+    assert!(rt; met.double_writes > 0 && met.appends > 0);
     Ok(())
 }
 
 #[test]
-fn no_wait_on_calls_2(rt: HostRuntime) -> Result<(), Fail> {
-    let alloc = rt.alloc();
-    let mut locks = Locks::<0>::begin(two_rows(alloc)?)?;
-    let mut plain = Plain::new(alloc, false);
-    let steps = [
-        Step::Ask(2, 1, 43, 0, Mode::Update),
-        Step::Ask(3, 1, 5, 0, Mode::Read),
-        Step::Write(2, 1, 0, 0, 14),
-        Step::Commit(2, 1, 1),
-        Step::Ask(1, 1, 38, 0, Mode::Read),
-        Step::Ask(4, 1, 53, 1, Mode::Update),
-        Step::Ask(4, 1, 53, 0, Mode::Read),
-        Step::Write(4, 1, 0, 1, 15),
-        Step::Commit(4, 1, 3),
-        Step::Ask(1, 1, 38, 1, Mode::Read),
-        Step::Ask(5, 1, 25, 0, Mode::Update),
-        Step::Abort(1, 1),
-        Step::Ask(1, 2, 38, 0, Mode::Read),
-        Step::Prepare(1, 2, 0),
-        Step::Abort(3, 1),
-        Step::Commit(1, 2, 2),
-    ];
-    let said = said_to(alloc, &mut locks, &steps)?;
-    assert!(rt; plain.agrees(alloc, &steps, &said)?);
-    assert_eq!(rt; locks.rows()?, plain.rows(alloc)?);
+fn wait_die_is_its_rule(rt: HostRuntime) -> Result<(), Fail> {
+    let met = trial::<Locks<1>>(rt.alloc(), Rule::WaitDie)?.expect(&rt, "a seed");
+    assert!(rt; met.younger > 0 && met.commits > 0 && met.updates_that_wait > 0);
+    assert!(rt; met.commits_that_wake_more > 0 && met.aborts_that_wake_more > 0);
+    assert!(rt; met.double_writes > 0 && met.appends > 0);
     Ok(())
 }
 
 #[test]
-fn wait_die_on_calls_1(rt: HostRuntime) -> Result<(), Fail> {
-    let alloc = rt.alloc();
-    let mut locks = Locks::<1>::begin(two_rows(alloc)?)?;
-    let mut plain = Plain::new(alloc, true);
-    let steps = [
-        Step::Ask(3, 1, 29, 0, Mode::Update),
-        Step::Write(3, 1, 0, 0, 16),
-        Step::Commit(3, 1, 2),
-        Step::Ask(4, 1, 55, 0, Mode::Update),
-        Step::Ask(2, 1, 46, 0, Mode::Read),
-        Step::Ask(4, 1, 55, 1, Mode::Update),
-        Step::Ask(5, 1, 23, 1, Mode::Update),
-        Step::Ask(1, 1, 52, 1, Mode::Put),
-        Step::Write(4, 1, 0, 1, 17),
-        Step::Commit(4, 1, 3),
-        Step::Ask(2, 1, 46, 1, Mode::Read),
-        Step::Write(1, 1, 0, 1, 18),
-        Step::Commit(1, 1, 5),
-        Step::Prepare(2, 1, 0),
-        Step::Commit(2, 1, 6),
-        Step::Ask(5, 1, 23, 0, Mode::Read),
-    ];
-    let said = said_to(alloc, &mut locks, &steps)?;
-    assert!(rt; plain.agrees(alloc, &steps, &said)?);
-    assert_eq!(rt; locks.rows()?, plain.rows(alloc)?);
+fn timestamp_is_its_rule(rt: HostRuntime) -> Result<(), Fail> {
+    let met = trial::<Stamps>(rt.alloc(), Rule::Timestamp)?.expect(&rt, "a seed");
+    assert!(rt; met.written > 0 && met.read_later > 0);
+    assert!(rt; met.commits > 0 && met.updates_that_wait > 0);
+    assert!(rt; met.commits_that_wake_more > 0 && met.aborts_that_wake_more > 0);
+    assert!(rt; met.double_writes > 0 && met.appends > 0);
     Ok(())
 }
 
 #[test]
-fn wait_die_on_calls_2(rt: HostRuntime) -> Result<(), Fail> {
+fn mvcc_is_its_rule(rt: HostRuntime) -> Result<(), Fail> {
+    let met = trial::<Chains<2>>(rt.alloc(), Rule::Mvcc(2))?.expect(&rt, "a seed");
+    assert!(rt; met.trimmed > 0 && met.read_later > 0);
+    assert!(rt; met.commits > 0 && met.updates_that_wait > 0);
+    assert!(rt; met.commits_that_wake_more > 0 && met.aborts_that_wake_more > 0);
+    assert!(rt; met.double_writes > 0 && met.appends > 0);
+    Ok(())
+}
+
+#[test]
+fn maat_is_its_rule(rt: HostRuntime) -> Result<(), Fail> {
+    let met = trial::<Ranges<4096>>(rt.alloc(), Rule::Maat(4096))?.expect(&rt, "a seed");
+    assert!(rt; met.empty_ranges > 0 && met.commits > 0 && met.waits == 0);
+    assert!(rt; met.double_writes > 0 && met.appends > 0);
+    Ok(())
+}
+
+/// An attempt writes two rows and appends one under the number 10, and another that reads one of them is aborted after it
+/// has prepared with a row and another append.
+fn two_rows_and_appends() -> [Step; 7] {
+    let first = Effect {
+        writes: Cells {
+            first: Some(7),
+            second: Some(8),
+        },
+        appends: Cells {
+            first: Some(9),
+            second: None,
+        },
+    };
+    let second = Effect {
+        writes: Cells {
+            first: None,
+            second: Some(5),
+        },
+        appends: Cells {
+            first: None,
+            second: Some(6),
+        },
+    };
+    [
+        Step::Ask(attempt(1, 1), 10, 0, Mode::Update),
+        Step::Ask(attempt(1, 1), 10, 1, Mode::Put),
+        Step::Prepare(attempt(1, 1), 0, first),
+        Step::Commit(attempt(1, 1), 10),
+        Step::Ask(attempt(2, 1), 20, 1, Mode::Update),
+        Step::Prepare(attempt(2, 1), 0, second),
+        Step::Abort(attempt(2, 1)),
+    ]
+}
+
+/// What a control says to those calls with these two votes, where the bounds are 0 or those of MAAT.
+fn two_rows_said(
+    alloc: Global,
+    (first, later): (u64, u64),
+    one: (u64, u64),
+    other: (u64, u64),
+) -> Result<[Said; 7], NoMemory> {
+    Ok([
+        granted(alloc, Some(100), (0, 0), first)?,
+        granted(alloc, None, (0, 0), first)?,
+        yes(one.0, one.1),
+        ends(alloc, 0),
+        granted(alloc, Some(8), (10, 1), later)?,
+        yes(other.0, other.1),
+        ends(alloc, 0),
+    ])
+}
+
+/// The rows after those calls.
+fn two_rows_left(alloc: Global) -> Result<RowList, NoMemory> {
+    let mut rows = RowList::new(alloc);
+    for (table, a, cell) in [(0, 0, 7), (0, 1, 8), (5, 0, 9)] {
+        let row = row_of(alloc, Some(cell))?;
+        let key = Key {
+            table,
+            a,
+            b: 0,
+            c: 0,
+        };
+        rows.push(Keyed { key, row })?;
+    }
+    Ok(rows)
+}
+
+#[test]
+fn no_wait_writes_two_rows_and_appends(rt: HostRuntime) -> Result<(), Fail> {
     let alloc = rt.alloc();
-    let mut locks = Locks::<1>::begin(two_rows(alloc)?)?;
-    let mut plain = Plain::new(alloc, true);
-    let steps = [
-        Step::Ask(1, 1, 56, 0, Mode::Read),
-        Step::Ask(2, 1, 33, 0, Mode::Put),
-        Step::Ask(1, 1, 56, 1, Mode::Update),
-        Step::Ask(4, 1, 23, 1, Mode::Read),
-        Step::Ask(3, 1, 30, 0, Mode::Update),
-        Step::Ask(5, 1, 1, 0, Mode::Read),
-        Step::Write(1, 1, 0, 1, 19),
-        Step::Commit(1, 1, 2),
-        Step::Ask(4, 1, 23, 0, Mode::Read),
-        Step::Ask(2, 1, 33, 1, Mode::Read),
-        Step::Write(2, 1, 0, 0, 20),
-        Step::Commit(2, 1, 4),
-        Step::Ask(3, 1, 30, 1, Mode::Read),
-        Step::Write(3, 1, 0, 0, 21),
-        Step::Commit(3, 1, 6),
-        Step::Ask(5, 1, 1, 1, Mode::Put),
-    ];
-    let said = said_to(alloc, &mut locks, &steps)?;
-    assert!(rt; plain.agrees(alloc, &steps, &said)?);
-    assert_eq!(rt; locks.rows()?, plain.rows(alloc)?);
+    let wanted = two_rows_said(alloc, (0, 0), (1, 1 << 63), (11, 1 << 63))?;
+    let (said, rows) = said_to::<Locks<0>>(alloc, &two_rows_and_appends())?;
+    assert_eq!(rt; said.as_slice(), wanted.as_slice());
+    assert_eq!(rt; rows, two_rows_left(alloc)?);
+    Ok(())
+}
+
+#[test]
+fn wait_die_writes_two_rows_and_appends(rt: HostRuntime) -> Result<(), Fail> {
+    let alloc = rt.alloc();
+    let wanted = two_rows_said(alloc, (0, 0), (1, 1 << 63), (11, 1 << 63))?;
+    let (said, rows) = said_to::<Locks<1>>(alloc, &two_rows_and_appends())?;
+    assert_eq!(rt; said.as_slice(), wanted.as_slice());
+    assert_eq!(rt; rows, two_rows_left(alloc)?);
+    Ok(())
+}
+
+#[test]
+fn timestamp_writes_two_rows_and_appends(rt: HostRuntime) -> Result<(), Fail> {
+    let alloc = rt.alloc();
+    let wanted = two_rows_said(alloc, (0, 0), (10, 10), (20, 20))?;
+    let (said, rows) = said_to::<Stamps>(alloc, &two_rows_and_appends())?;
+    assert_eq!(rt; said.as_slice(), wanted.as_slice());
+    assert_eq!(rt; rows, two_rows_left(alloc)?);
+    Ok(())
+}
+
+#[test]
+fn mvcc_writes_two_rows_and_appends(rt: HostRuntime) -> Result<(), Fail> {
+    let alloc = rt.alloc();
+    let wanted = two_rows_said(alloc, (0, 0), (10, 10), (20, 20))?;
+    let (said, rows) = said_to::<Chains<2>>(alloc, &two_rows_and_appends())?;
+    assert_eq!(rt; said.as_slice(), wanted.as_slice());
+    assert_eq!(rt; rows, two_rows_left(alloc)?);
+    Ok(())
+}
+
+#[test]
+fn maat_writes_two_rows_and_appends(rt: HostRuntime) -> Result<(), Fail> {
+    let alloc = rt.alloc();
+    let wanted = two_rows_said(alloc, (1, 11), (1, 4096), (11, 4106))?;
+    let (said, rows) = said_to::<Ranges<4096>>(alloc, &two_rows_and_appends())?;
+    assert_eq!(rt; said.as_slice(), wanted.as_slice());
+    assert_eq!(rt; rows, two_rows_left(alloc)?);
     Ok(())
 }
 
 #[test]
 fn an_older_attempt_waits_for_the_younger(rt: HostRuntime) -> Result<(), Fail> {
     let alloc = rt.alloc();
-    let mut locks = Locks::<1>::begin(two_rows(alloc)?)?;
     let steps = [
-        Step::Ask(1, 1, 30, 0, Mode::Read),
-        Step::Ask(2, 1, 20, 0, Mode::Update),
-        Step::Ask(3, 1, 25, 0, Mode::Read),
-        Step::Ask(4, 1, 10, 0, Mode::Read),
-        Step::Abort(1, 1),
-        Step::Abort(3, 1),
+        Step::Ask(attempt(1, 1), 30, 0, Mode::Read),
+        Step::Ask(attempt(2, 1), 20, 0, Mode::Update),
+        Step::Ask(attempt(3, 1), 25, 0, Mode::Read),
+        Step::Ask(attempt(4, 1), 10, 0, Mode::Read),
+        Step::Abort(attempt(1, 1)),
+        Step::Abort(attempt(3, 1)),
     ];
     let wanted = [
         granted(alloc, Some(100), (0, 0), 0)?,
@@ -199,23 +270,20 @@ fn an_older_attempt_waits_for_the_younger(rt: HostRuntime) -> Result<(), Fail> {
         ends(alloc, 2),
         wakes(alloc, 2, 100, (0, 0), 1)?,
     ];
-    assert_eq!(rt;
-        said_to(alloc, &mut locks, &steps)?.as_slice(),
-        wanted.as_slice()
-    );
+    let (said, _) = said_to::<Locks<1>>(alloc, &steps)?;
+    assert_eq!(rt; said.as_slice(), wanted.as_slice());
     Ok(())
 }
 
 #[test]
 fn a_window_without_numbers_is_refused(rt: HostRuntime) -> Result<(), Fail> {
     let alloc = rt.alloc();
-    let mut ranges = Ranges::<4096>::begin(two_rows(alloc)?)?;
     let steps = [
-        Step::Ask(1, 1, 1, 0, Mode::Read),
-        Step::Ask(2, 1, 2, 0, Mode::Update),
-        Step::Write(2, 1, 1, 0, 7),
-        Step::Commit(2, 1, 1),
-        Step::Prepare(1, 1, 1),
+        Step::Ask(attempt(1, 1), 1, 0, Mode::Read),
+        Step::Ask(attempt(2, 1), 2, 0, Mode::Update),
+        Step::Prepare(attempt(2, 1), 1, writes(7)),
+        Step::Commit(attempt(2, 1), 1),
+        Step::Prepare(attempt(1, 1), 1, NOTHING),
     ];
     let refused = Cause::EmptyRange {
         lo: 1,
@@ -230,25 +298,22 @@ fn a_window_without_numbers_is_refused(rt: HostRuntime) -> Result<(), Fail> {
         ends(alloc, 0),
         Said::Vote(Vote::No(refused)),
     ];
-    assert_eq!(rt;
-        said_to(alloc, &mut ranges, &steps)?.as_slice(),
-        wanted.as_slice()
-    );
+    let (said, _) = said_to::<Ranges<4096>>(alloc, &steps)?;
+    assert_eq!(rt; said.as_slice(), wanted.as_slice());
     Ok(())
 }
 
 #[test]
 fn a_put_goes_past_a_smaller_update(rt: HostRuntime) -> Result<(), Fail> {
     let alloc = rt.alloc();
-    let mut stamps = Stamps::begin(two_rows(alloc)?)?;
     let steps = [
-        Step::Ask(1, 1, 1, 0, Mode::Update),
-        Step::Ask(2, 1, 3, 0, Mode::Put),
-        Step::Ask(3, 1, 2, 0, Mode::Read),
-        Step::Write(2, 1, 0, 0, 7),
-        Step::Commit(2, 1, 3),
-        Step::Write(1, 1, 0, 0, 6),
-        Step::Commit(1, 1, 1),
+        Step::Ask(attempt(1, 1), 1, 0, Mode::Update),
+        Step::Ask(attempt(2, 1), 3, 0, Mode::Put),
+        Step::Ask(attempt(3, 1), 2, 0, Mode::Read),
+        Step::Prepare(attempt(2, 1), 0, writes(7)),
+        Step::Commit(attempt(2, 1), 3),
+        Step::Prepare(attempt(1, 1), 0, writes(6)),
+        Step::Commit(attempt(1, 1), 1),
     ];
     let wanted = [
         granted(alloc, Some(100), (0, 0), 0)?,
@@ -259,12 +324,9 @@ fn a_put_goes_past_a_smaller_update(rt: HostRuntime) -> Result<(), Fail> {
         yes(1, 1),
         wakes(alloc, 3, 6, (1, 1), 0)?,
     ];
-    assert_eq!(rt;
-        said_to(alloc, &mut stamps, &steps)?.as_slice(),
-        wanted.as_slice()
-    );
+    let (said, rows) = said_to::<Stamps>(alloc, &steps)?;
+    assert_eq!(rt; said.as_slice(), wanted.as_slice());
     let row = row_of(alloc, Some(7))?;
-    let rows = stamps.rows()?;
     assert!(rt; rows.as_slice().contains(&Keyed { key: key(0), row }));
     Ok(())
 }
@@ -272,20 +334,19 @@ fn a_put_goes_past_a_smaller_update(rt: HostRuntime) -> Result<(), Fail> {
 #[test]
 fn a_version_below_a_waiter_is_kept(rt: HostRuntime) -> Result<(), Fail> {
     let alloc = rt.alloc();
-    let mut chains = Chains::<2>::begin(two_rows(alloc)?)?;
     // Two puts overtake an update and a read that waits for it.
     let steps = [
-        Step::Ask(1, 1, 10, 0, Mode::Update),
-        Step::Ask(2, 1, 12, 0, Mode::Read),
-        Step::Ask(3, 1, 20, 0, Mode::Put),
-        Step::Write(3, 1, 0, 0, 3),
-        Step::Commit(3, 1, 20),
-        Step::Ask(4, 1, 30, 0, Mode::Put),
-        Step::Write(4, 1, 0, 0, 4),
-        Step::Commit(4, 1, 30),
-        Step::Write(1, 1, 0, 0, 1),
-        Step::Commit(1, 1, 10),
-        Step::Ask(5, 1, 15, 0, Mode::Read),
+        Step::Ask(attempt(1, 1), 10, 0, Mode::Update),
+        Step::Ask(attempt(2, 1), 12, 0, Mode::Read),
+        Step::Ask(attempt(3, 1), 20, 0, Mode::Put),
+        Step::Prepare(attempt(3, 1), 0, writes(3)),
+        Step::Commit(attempt(3, 1), 20),
+        Step::Ask(attempt(4, 1), 30, 0, Mode::Put),
+        Step::Prepare(attempt(4, 1), 0, writes(4)),
+        Step::Commit(attempt(4, 1), 30),
+        Step::Prepare(attempt(1, 1), 0, writes(1)),
+        Step::Commit(attempt(1, 1), 10),
+        Step::Ask(attempt(5, 1), 15, 0, Mode::Read),
     ];
     let trimmed = Cause::Trimmed {
         key: key(0),
@@ -304,10 +365,8 @@ fn a_version_below_a_waiter_is_kept(rt: HostRuntime) -> Result<(), Fail> {
         wakes(alloc, 2, 1, (10, 1), 0)?,
         Said::Answer(Answer::Refused(trimmed)),
     ];
-    assert_eq!(rt;
-        said_to(alloc, &mut chains, &steps)?.as_slice(),
-        wanted.as_slice()
-    );
+    let (said, _) = said_to::<Chains<2>>(alloc, &steps)?;
+    assert_eq!(rt; said.as_slice(), wanted.as_slice());
     Ok(())
 }
 

@@ -2,7 +2,7 @@ use Rattle.std.proofs.Common.{◌≡◌, true, [], refl, sym, subst, arith}
 use Rattle.std.specs.Prelude.{is_some}
 use Rattle.row_store.specs.Stores.{row_in}
 use Rattle.control_trials.specs.Trials.{trial_key}
-use Rattle.control_trials.proofs.Checks.{there}
+use Rattle.control_trials.proofs.Logs.{there}
 use Rattle.control_trials.proofs.tests.the_loaded_version_is_kept.Goals as goal
 
 pub kept-requires : goal.kept-requires
