@@ -1,5 +1,5 @@
 -- The rows, keys, bounds and numbers of the trials, and what a trial keeps.
-use Rattle.std.specs.Prelude.{◌≡◌, ℕ, pos, List, [], ◌∷◌, ◌++◌, Bool, true, ◌==◌, ◌&&◌, ltb, is_some, Option, Some, None}
+use Rattle.std.specs.Prelude.{◌≡◌, ℕ, pos, List, [], ◌∷◌, ◌++◌, Bool, true, ◌==◌, ◌&&◌, nat_lt, is_some, Option, Some, None}
 use Rattle.deneva_base.specs.declared.keys.Key.{Key}
 use Rattle.deneva_base.specs.declared.numbers.Number.{Number}
 use Rattle.deneva_base.specs.declared.numbers.Attempt.{Attempt}
@@ -39,7 +39,7 @@ rows_of table cells = rows_at table 0 cells.first ++ rows_at table 1 cells.secon
 
 -- the keys 0 and 1 of table 0
 abbrev pub is_trial_key : Key → Bool
-is_trial_key k = (k.table == 0) && (ltb k.a 2 && ((k.b == 0) && (k.c == 0)))
+is_trial_key k = (k.table == 0) && (nat_lt k.a 2 && ((k.b == 0) && (k.c == 0)))
 
 -- they have rows
 abbrev pub HasTrialRows : Rows → Type 0

@@ -1,5 +1,5 @@
 //! What is known of the calls that a control was asked, by which it is told whether one more meets its conditions.
-ghost use Rattle.std.specs.Prelude.{◌≡◌, ◌<◌, ◌^◌, [], ◌∷◌, List, Bool, IsTrue, OnOk, not, ◌&&◌, ◌==◌, leb};
+ghost use Rattle.std.specs.Prelude.{◌≡◌, ◌<◌, ◌^◌, [], ◌∷◌, List, Bool, IsTrue, OnOk, not, ◌&&◌, ◌==◌, nat_le};
 ghost use Rattle.std.specs.List.{list_any};
 ghost use Rattle.deneva_base.specs.declared.causes.Bound.{Bound};
 ghost use Rattle.deneva_base.specs.declared.rows.Keyed.{Keyed};
@@ -118,7 +118,7 @@ fn is_stamp_taken(asks: &[Wanted], txn: TxnId, stamp: u64) -> bool
 }
 
 fn is_inside(windows: &[Window], who: Attempt, n: u64) -> bool
-    ensures { result ≡ list_any (λ w. attempt_eq w.who who && (leb w.lo n && leb n w.hi)) windows.now }
+    ensures { result ≡ list_any (λ w. attempt_eq w.who who && (nat_le w.lo n && nat_le n w.hi)) windows.now }
 {
     windows
         .iter()
