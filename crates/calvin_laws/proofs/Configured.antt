@@ -67,7 +67,7 @@ use Rattle.server_core.proofs.configured.Workloads as workload
 use Rattle.server_core.specs.CalvinRuns as ordered
 
 -- no attempt is aborted
-pub none_named : (c : Config) (w : Workload) → c.protocol ≡ Calvin → (H : List Entry) → AllNamed c w H
+pub none_named : (c : Config) (w : Workload) → c.protocol ≡ Calvin → (H : List Entry) → AllNamed c w H (outcome c w H)
 none_named c w is H l i = subst (λ (f : Family). IsIn l (f.aborts (setting c w) H) → f.named (setting c w) H l) (sym (family_orders c.protocol is)) (λ j. absurd j) i
 
 module _ (c : Config) (w : Workload) (is : c.protocol ≡ Calvin) (config : IsConfig c) (good : IsValid w) where
@@ -190,8 +190,12 @@ module _ (c : Config) (w : Workload) (is : c.protocol ≡ Calvin) (config : IsCo
         ∙ finished_told s n.0 p v (forms c w good) H run (order_in s n.0 n.1)
         ∙ ap₂ (λ (qs : List ℕ) (k : Number). cond (list_any (λ q. eqb q p) qs) (k ∷ []) []) (sym n.2.1) (sym n.2.0)
 
+    its_participants : (l : Decided) → IsIn l lines → l.participants ≡ participants_for s l.number.id
+    its_participants l i =
+        let n = line_is s.loaded (order s) l i in n.2.1 ∙ ap (λ (x : TxnId). participants_for s x) (sym (ap (λ (k : Number). k.id) n.2.0))
+
     pub told : IsTold s H (outcome c w H)
-    told = subst (IsTold s H) (sym outcome_is) (record { decided = decided_told; given_up = λ g p i. absurd i })
+    told = subst (IsTold s H) (sym outcome_is) (record { decided = decided_told; participants = its_participants; given_up = λ g p i. absurd i; turns = λ g i. absurd i })
 
     pub rows : (key : Key) → rows_of_node c w (partition_of key c.parts) (heard (partition_of key c.parts) H) key ≡ row_of (outcome c w H).rows key
     rows key =

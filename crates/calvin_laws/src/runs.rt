@@ -130,7 +130,7 @@ pub fn calvin_runs_are_right()
     ensures each { (c : Config) (w : Workload) (H : List Entry) (flight : List Mail) (x : TxnId) → IsConfig c → IsValid w → c.protocol ≡ Calvin → any.IsRun c w H flight → IsIn x (all_ids w) → let m = length (participants_for (setting c w) x) in count_entries (λ e. is_about x e.msg) H ≤ m * m + m }
     ensures small { (c : Config) (w : Workload) (H : List Entry) (flight : List Mail) → IsConfig c → IsValid w → c.protocol ≡ Calvin → any.IsRun c w H flight → length H < 2 ^ 32 }
     ensures numbers { (c : Config) (w : Workload) (x : TxnId) → IsConfig c → IsValid w → c.protocol ≡ Calvin → IsIn x (all_ids w) → (number (setting c w) x).n < 2 ^ 48 }
-    ensures named { (c : Config) (w : Workload) (H : List Entry) → c.protocol ≡ Calvin → AllNamed c w H }
+    ensures named { (c : Config) (w : Workload) (H : List Entry) → c.protocol ≡ Calvin → AllNamed c w H (outcome c w H) }
     ensures picked { (c : Config) (w : Workload) (schedule : Schedule) → IsConfig c → IsValid w → c.protocol ≡ Calvin → IsQuiet c w (picked c w schedule) }
     ensures atomic { (c : Config) (w : Workload) (H : List Entry) → IsConfig c → IsValid w → c.protocol ≡ Calvin → IsQuiet c w H → IsAtomic c w H }
     ensures finished { (c : Config) (w : Workload) (H : List Entry) (x : TxnId) → IsConfig c → IsValid w → c.protocol ≡ Calvin → IsQuiet c w H → IsIn x (all_ids w) → FinishedOnce (setting c w) H x }

@@ -28,5 +28,5 @@ pub record Replays (c : Config) (w : Workload) (schedule : Schedule) (ran : Ran)
   pub in_order : InReportOrder ran.outcome
   pub told : IsTold (setting c w) (picked c w schedule) ran.outcome
   pub atomic : IsAtomic c w (picked c w schedule)
-  pub named : AllNamed c w (picked c w schedule)
+  pub named : AllNamed c w (picked c w schedule) ran.outcome
   pub ordered : c.protocol ≡ Calvin → ran.outcome ≡ in_global_order c.parts w

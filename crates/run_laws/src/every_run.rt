@@ -39,7 +39,7 @@ pub fn runs_are_right()
     ensures lands { (c : Config) (w : Workload) (H : List Entry) (flight : List Mail) (x : Mail) → IsConfig c → IsValid w → IsRun c w H flight → IsIn x flight → (x.from < c.parts) × (x.to < c.parts) }
     ensures kept_apart { (c : Config) (w : Workload) (H : List Entry) (flight : List Mail) (p : ℕ) (key : Key) → IsConfig c → IsValid w → IsRun c w H flight → partition_of key c.parts ≢ p → rows_of_node c w p (heard p H) key ≡ None }
     ensures flight { (c : Config) (w : Workload) (H : List Entry) (flight other : List Mail) → IsRun c w H flight → IsRun c w H other → flight ≡ other }
-    ensures named { (c : Config) (w : Workload) (H : List Entry) (flight : List Mail) → IsConfig c → IsValid w → IsRun c w H flight → AllNamed c w H }
+    ensures named { (c : Config) (w : Workload) (H : List Entry) (flight : List Mail) → IsConfig c → IsValid w → IsRun c w H flight → AllNamed c w H (outcome c w H) }
     ensures account { (c : Config) (w : Workload) (H : List Entry) (flight : List Mail) → IsConfig c → IsValid w → IsVoting c.protocol → IsRun c w H flight → RunAccount (setting c w) H flight }
     ensures picked { (c : Config) (w : Workload) (schedule : Schedule) → IsConfig c → IsValid w → IsQuiet c w (picked c w schedule) }
     ensures atomic { (c : Config) (w : Workload) (H : List Entry) → IsConfig c → IsValid w → IsQuiet c w H → IsAtomic c w H }

@@ -7,7 +7,7 @@ use Rattle.deneva_base.specs.declared.numbers.Number.{Number}
 use Rattle.deneva_base.specs.declared.numbers.TxnId.{TxnId}
 use Rattle.server_core.specs.CalvinAtomic.{finished_numbers}
 use Rattle.server_core.specs.Runs.{heard}
-use Rattle.server_core.specs.Setting.{Setting}
+use Rattle.server_core.specs.Setting.{Setting, participants_for}
 use Rattle.server_core.specs.declared.messages.Entry.{Entry}
 use Rattle.server_core.specs.declared.messages.Msg.{Msg}
 use Rattle.server_core.specs.declared.messages.Msg.TheVariants.{Commit}
@@ -25,8 +25,10 @@ commit_number x m = []
 abbrev pub numbers_at : Setting → List Entry → TxnId → ℕ → List Number
 numbers_at s H x p = flat_map (commit_number x) (heard p H) ++ finished_numbers s H x p
 
--- each decided transaction committed once at each of its participants, with the number of its line, and nowhere else; a
--- given-up one committed nowhere
+-- each decided transaction committed once at each of its participants, with the number of its line, and nowhere else, and
+-- its line has its participants; a given-up one committed nowhere, and was tried as often as it may be
 pub record IsTold (s : Setting) (H : List Entry) (o : Outcome) : Type 0 where
   pub decided : (l : Decided) (p : ℕ) → IsIn l o.decided → numbers_at s H l.number.id p ≡ (if list_any (λ q. q == p) l.participants then l.number ∷ [] else [])
+  pub participants : (l : Decided) → IsIn l o.decided → l.participants ≡ participants_for s l.number.id
   pub given_up : (g : Giveup) (p : ℕ) → IsIn g o.giveups → numbers_at s H g.id p ≡ []
+  pub turns : (g : Giveup) → IsIn g o.giveups → g.turns ≡ s.attempts

@@ -48,7 +48,7 @@ use Rattle.voting_laws.proofs.numbers.Numbers.{run_good, run_small, run_top, run
 use Rattle.server_core.proofs.serial.InOrder.{voting_order}
 use Rattle.server_core.proofs.serial.SerialMaps.{serial_listed, row_listed}
 use Rattle.voting_laws.proofs.serial.EachOnce.{each_once}
-use Rattle.voting_laws.proofs.serial.Told.{decided_told, given_up_told}
+use Rattle.voting_laws.proofs.serial.Told.{decided_told, participants_told, given_up_told, turns_told}
 use Rattle.voting_laws.proofs.serial.SerialOutcomes.{lines_rise, runs_same, rows_same, rows_sorted}
 use Rattle.voting_laws.proofs.Wholes.{whole}
 use Rattle.server_core.specs.VotingRuns as voting
@@ -89,7 +89,7 @@ module _ (c : Config) (w : Workload) (o : Chosen) (is : chosen c.protocol ≡ So
     pub atomic : (H : List Entry) → IsQuiet c w H → IsAtomic c w H
     atomic H r x i = subst (λ (f : Family). f.whole s H x) (sym kin) (whole s v H (run_good s v lim H [] (voting_run H [] r)) x)
 
-    pub all_named : (H : List Entry) (flight : List Mail) → Naming s.rule → IsRun c w H flight → AllNamed c w H
+    pub all_named : (H : List Entry) (flight : List Mail) → Naming s.rule → IsRun c w H flight → AllNamed c w H (outcome c w H)
     all_named H flight nm r l i =
         let run = voting_run H flight r in
         let u = run_under s v lim H flight run in
@@ -116,7 +116,7 @@ module _ (c : Config) (w : Workload) (o : Chosen) (is : chosen c.protocol ≡ So
     pub told : (H : List Entry) → IsQuiet c w H → IsTold s H (outcome c w H)
     told H r =
         let g = run_good s v lim H [] (voting_run H [] r) in
-        subst (IsTold s H) (sym (outcome_is H)) (record { decided = decided_told s v H g; given_up = given_up_told s v H g })
+        subst (IsTold s H) (sym (outcome_is H)) (record { decided = decided_told s v H g; participants = participants_told s v H g; given_up = given_up_told s v H g; turns = turns_told s v H g })
 
     pub rows : IsValid w → (H : List Entry) → IsQuiet c w H → (key : Key) → node_rows s (partition_of key c.parts) (heard (partition_of key c.parts) H) key ≡ row_of (outcome c w H).rows key
     rows valid H r key =

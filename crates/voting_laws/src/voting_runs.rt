@@ -42,7 +42,7 @@ ghost use Rattle.server_core.specs.declared.schedules.Schedule.{Schedule};
 pub fn voting_runs_are_right()
     ensures fits { (c : Config) (w : Workload) (H : List Entry) (flight : List Mail) → IsConfig c → IsValid w → IsVoting c.protocol → IsRun c w H flight → AllFitting c w H flight }
     ensures short { (c : Config) (w : Workload) (H : List Entry) (flight : List Mail) → IsConfig c → IsValid w → IsVoting c.protocol → IsRun c w H flight → length H ≤ most_entries c w }
-    ensures named { (c : Config) (w : Workload) (H : List Entry) (flight : List Mail) → IsConfig c → IsValid w → IsVoting c.protocol → IsRun c w H flight → AllNamed c w H }
+    ensures named { (c : Config) (w : Workload) (H : List Entry) (flight : List Mail) → IsConfig c → IsValid w → IsVoting c.protocol → IsRun c w H flight → AllNamed c w H (outcome c w H) }
     ensures listed { (c : Config) (w : Workload) (H : List Entry) (flight : List Mail) → IsConfig c → IsValid w → IsVoting c.protocol → IsRun c w H flight → ListsAborts (setting c w) H (outcome c w H).aborts }
     ensures picked { (c : Config) (w : Workload) (schedule : Schedule) → IsConfig c → IsValid w → IsVoting c.protocol → IsQuiet c w (picked c w schedule) }
     ensures atomic { (c : Config) (w : Workload) (H : List Entry) → IsConfig c → IsValid w → IsVoting c.protocol → IsQuiet c w H → IsAtomic c w H }

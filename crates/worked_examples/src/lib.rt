@@ -20,7 +20,9 @@ pub use locks::{
 };
 pub use ordered::crossing_transactions_in_a_global_order;
 pub use plain::{no_transaction, one_update};
-pub use premises::{a_quiet_run_meets_the_laws, premises_can_be_met};
+pub use premises::{
+    a_quiet_run_meets_the_laws, each_voting_protocol_has_quiet_runs, premises_can_be_met,
+};
 pub use ranges::windows_apart;
 pub use rules::{
     a_put_holds_its_key, a_put_over_a_waiting_read, a_reader_overtaken, an_updater_among_readers,

@@ -1,4 +1,5 @@
--- Each decided transaction committed at just its participants with its number, and a given-up one nowhere.
+-- Each decided transaction committed at just its participants with its number, which its line has, and a given-up one
+-- nowhere, after all its turns.
 use Rattle.std.proofs.Common.{◌≡◌, ℕ, ◌+◌, List, [], ◌∷◌, ◌++◌, Bool, true, false, cond, eqb, refl, sym, ap, ap₂, ◌∙◌, subst, ⊎_elim, arith, append-nil, true≢false}
 use Rattle.std.specs.List.{flat_map, list_any}
 use Rattle.std.proofs.lemmas.Bool.Decides.{nat_tests}
@@ -12,7 +13,7 @@ use Rattle.server_core.specs.Ends.{attempt, all_undone}
 use Rattle.server_core.specs.Lines.{lines, sort_lines, giveups_of}
 use Rattle.server_core.specs.Proper.{Valid}
 use Rattle.server_core.specs.Runs.{heard}
-use Rattle.server_core.specs.Setting.{Setting, home, partitions_of}
+use Rattle.server_core.specs.Setting.{Setting, home, partitions_of, participants_for}
 use Rattle.server_core.specs.CalvinAtomic.{finished_number}
 use Rattle.server_core.specs.Told.{commit_number, numbers_at}
 use Rattle.server_core.specs.VotingAtomic.{Committed, commits}
@@ -124,6 +125,20 @@ module _ (s : Setting) (v : Valid s) (H : List Entry) (g : Good s H []) where
       let c = committed_with l.number.id f.who l.number f.place is f.commit in
       committed_told l.number.id c.0 p
       ∙ ap₂ (λ (qs : List ℕ) n. cond (list_any (λ q. eqb q p) qs) (n ∷ []) []) (ap (λ (y : TxnId). partitions_of s.parts (s.accesses y)) (sym is) ∙ sym (ap (λ (z : Line). z.participants) f.is)) c.1
+
+  pub participants_told : (l : Line) → IsIn l (sort_lines (lines s H)) → l.participants ≡ participants_for s l.number.id
+  participants_told l i =
+      let f = facts s v H [] g l (sorted_in l (lines s H) i) in
+      ap (λ (z : Line). z.participants) f.is ∙ ap (λ (y : TxnId). participants_for s y) (sym (ap (λ (z : Line). z.number.id) f.is))
+
+  pub turns_told : (k : Giveup) → IsIn k (giveups_of s H) → k.turns ≡ s.attempts
+  turns_told k i =
+      let y = in_flat (λ x. cond (all_undone s H (attempt x s.attempts)) (record { id = x; turns = s.attempts } ∷ []) []) s.ids k i in
+      go y.0 (all_undone s H (attempt y.0 s.attempts)) y.2
+    where
+      go : (y : TxnId) (b : Bool) → IsIn k (cond b (record { id = y; turns = s.attempts } ∷ []) []) → k.turns ≡ s.attempts
+      go y true j = ⊎_elim (λ is. ap (λ (z : Giveup). z.turns) is) (λ n. absurd n) j
+      go y false j = absurd j
 
   pub given_up_told : (k : Giveup) (p : ℕ) → IsIn k (giveups_of s H) → numbers_at s H k.id p ≡ []
   given_up_told k p i =

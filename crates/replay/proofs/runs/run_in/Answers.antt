@@ -4,6 +4,7 @@ use Rattle.deneva_base.specs.Partitions.{partition_of}
 use Rattle.deneva_base.specs.Rows.{row_of}
 use Rattle.deneva_base.specs.declared.keys.Key.{Key}
 use Rattle.server_core.specs.IsSerial.{IsSerial}
+use Rattle.server_core.specs.Named.{AllNamed}
 use Rattle.server_core.specs.NodeRows.{rows_of_node}
 use Rattle.server_core.specs.Outcome as outcomes
 use Rattle.server_core.specs.Picks.{picked}
@@ -45,6 +46,6 @@ returns g c =
       in_order = subst InReportOrder (sym same) (law.in_order config work H ranges valid quiet);
       told = subst (IsTold (setting config work) H) (sym same) (law.told config work H ranges valid quiet);
       atomic = law.atomic config work H ranges valid quiet;
-      named = law.named config work H _ ranges valid quiet;
+      named = subst (AllNamed config work H) (sym same) (law.named config work H _ ranges valid quiet);
       ordered = λ is_calvin. same ∙ ordered_outcome config work is_calvin ranges valid H quiet;
     }

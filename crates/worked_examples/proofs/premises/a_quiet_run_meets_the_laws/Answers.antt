@@ -13,7 +13,7 @@ use Rattle.server_core.specs.Setting.{setting}
 use Rattle.server_core.specs.declared.schedules.Schedule.TheVariants.{Fifo}
 use Rattle.server_core.proofs.configured.Limiteds.{limits}
 use Rattle.server_core.proofs.configured.ValidSettings.{rule_served, valid}
-use Rattle.voting_laws.proofs.Voted.{picked_quiet, all_named, atomic, serial, decided}
+use Rattle.voting_laws.proofs.Voted.{picked_quiet, all_named, atomic, serial, decided, told, in_order}
 use Rattle.worked_examples.specs.Workloads.{two_tries, three_writers_apart}
 use Rattle.worked_examples.proofs.premises.a_quiet_run_meets_the_laws.Goals as goal
 
@@ -56,4 +56,6 @@ returns c =
       named = all_named two_tries three_writers_apart _ refl fit limited H [] (rule_served WaitDie votes).naming is_quiet;
       atomic = atomic two_tries three_writers_apart _ refl fit limited H is_quiet;
       serial = serial two_tries three_writers_apart _ refl fit limited is_valid H is_quiet (decided two_tries three_writers_apart _ refl fit limited H (rule_served WaitDie votes).waits is_quiet);
+      told = told two_tries three_writers_apart _ refl fit limited H is_quiet;
+      in_order = in_order two_tries three_writers_apart _ refl fit limited H [] is_quiet;
     }
