@@ -26,5 +26,5 @@ returns-clause-ok c =
     let p = c.args.self.now.role in
     let s = setting_of p in
     let mails : c.if-epoch-self.mails ≡ batch_mails s p.part c.args.epoch ++ cond (ltb (suc c.args.epoch) (epochs s)) (tick_mail p.part (suc c.args.epoch) ∷ []) [] =
-    elim c.if-epoch-self.branch [ then-epoch-self+in_ok-push-2 w ↦ grind (arith, common_steps, nat_tests, w.in_ok-push-2.ensures, w.push-then-epoch-self.ensures, c.in_ok-mails.ensures, c.in_ok-batch.ensures) | else-epoch-self w ↦ grind (arith, common_steps, nat_tests, append-nil, c.in_ok-mails_to.ensures, c.in_ok-batch.ensures) ] in
+    elim c.if-epoch-self.branch [ then-epoch-self+in_ok-push-2 w ↦ grind (arith, common_steps, nat_tests, w.in_ok-push-2.ensures, w.push-then-epoch-self.ensures, c.in_ok-mails.ensures, c.in_ok-batch.ensures) | else-epoch-self w ↦ grind (arith, common_steps, nat_tests, append-nil, c.in_ok-mails.ensures, c.in_ok-batch.ensures) ] in
     on_ok_weaker c.say_all.result (λ e ms. e ∙ ap (λ l. c.args.out.now.mails ++ l) mails) c.say_all.ensures.ok
