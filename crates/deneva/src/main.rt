@@ -10,7 +10,7 @@ use std::io::ErrorKind;
 use std::process::ExitCode;
 use std::{env, mem};
 
-/// The statuses of a call that could not be made for want of memory: its line was written, or it was not.
+/// The statuses of a call that found no memory: its line was written, or it was not.
 const NO_MEMORY: u8 = 1;
 
 const SINK_FAULT: u8 = 5;

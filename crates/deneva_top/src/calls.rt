@@ -1,5 +1,5 @@
 //! The call that the program makes.
-ghost use Rattle.std.specs.Prelude.{◌^◌, ◌≡◌, ◌≢◌, ◌≤◌, ◌<◌, ◌⊎◌, ℕ, List, ◌++◌, length, take, map, string_bytes, codes, true, false, Option, Some, None, Ok, Err, IfOk};
+ghost use Rattle.std.specs.Prelude.{◌^◌, ◌-◌, ◌≡◌, ◌≢◌, ◌≤◌, ◌<◌, ◌⊎◌, ℕ, List, ◌++◌, length, take, map, string_bytes, codes, true, false, Option, Some, None, Ok, Err, IfOk};
 ghost use Rattle.deneva_io.specs.Streams.{IsOver, Rose, Grew, WriteTook, WriteCause};
 ghost use Rattle.txn_program.specs.Serial.{all_ids};
 ghost use Rattle.txn_program.specs.Valid.{IsValid};
@@ -96,7 +96,7 @@ fn carry_out(alloc: Global, job: &Command, work: &Workload) -> Result<Answer, No
     }
 }
 
-/// What the words and the input ask for. Want of memory is an answer of its own.
+/// What the words and the input ask for. Out of memory is an answer of its own.
 fn answer_of<S: Source>(alloc: Global, words: &[String], source: &mut S) -> Result<Answer, NoMemory>
     ensures answer { IfOk result (λ a. Answers (map string_bytes words.now) (S.left source.old) (S.left source.new) (S.faults source.old) (S.faults source.new) a.status a.run a.text) }
     ensures unread { command_of (map string_bytes words.now) ≡ None → (S.left source.new ≡ S.left source.old) × (S.faults source.new ≡ S.faults source.old) }
@@ -128,7 +128,8 @@ fn write_piece<K: Sink>(sink: &mut K, left: &[u8]) -> Put
 /// Writes a text, and says whether the sink took all of it.
 fn write_all<K: Sink>(sink: &mut K, text: &[u8]) -> bool
     ensures whole { result ≡ true → Grew (K.taken sink.old) (K.taken sink.new) text.now }
-    ensures failed { result ≡ false → Rose (K.faults sink.old) (K.faults sink.new) × ((at : ℕ) × Grew (K.taken sink.old) (K.taken sink.new) (take at text.now)) }
+    ensures kept { result ≡ true → K.faults sink.new ≡ K.faults sink.old }
+    ensures failed { result ≡ false → Rose (K.faults sink.old) (K.faults sink.new) × ((at : ℕ) × (at < length text.now) × Grew (K.taken sink.old) (K.taken sink.new) (take at text.now)) }
 {
     let mut at = 0;
     while at < text.len() {
@@ -143,7 +144,7 @@ fn write_all<K: Sink>(sink: &mut K, text: &[u8]) -> bool
 /// How a call ended.
 #[derive(Debug, Drop)]
 pub struct Ended {
-    /// 0 for the answer that was asked for, 1 for want of memory, 2 for words that give no command, 3 for an input that
+    /// 0 for the answer that was asked for, 1 for out of memory, 2 for words that give no command, 3 for an input that
     /// is no workload file, 4 where the source failed, and 5 where the sink failed.
     pub status: u8,
     /// What was run: at status 0 of `replay`, and never else.
@@ -153,7 +154,8 @@ pub struct Ended {
 /// Writes the text of an answer, and ends with its status.
 fn send<K: Sink>(sink: &mut K, answer: Answer) -> Ended
     ensures whole { result.status ≢ 5 → (result.status ≡ answer.status) × (result.run ≡ answer.run) × Grew (K.taken sink.old) (K.taken sink.new) answer.text }
-    ensures failed { result.status ≡ 5 → (answer.status ≡ 5) ⊎ ((result.run ≡ None) × Rose (K.faults sink.old) (K.faults sink.new) × ((at : ℕ) × Grew (K.taken sink.old) (K.taken sink.new) (take at answer.text))) }
+    ensures kept { result.status ≢ 5 → K.faults sink.new ≡ K.faults sink.old }
+    ensures failed { result.status ≡ 5 → (answer.status ≡ 5) ⊎ ((result.run ≡ None) × Rose (K.faults sink.old) (K.faults sink.new) × ((at : ℕ) × (at < length answer.text) × Grew (K.taken sink.old) (K.taken sink.new) (take at answer.text))) }
 {
     if write_all(sink, answer.text.as_slice()) {
         Ended {
@@ -172,7 +174,8 @@ fn send<K: Sink>(sink: &mut K, answer: Answer) -> Ended
 fn send_no_memory<K: Sink>(sink: &mut K) -> Ended
     ensures run { result.run ≡ None }
     ensures whole { result.status ≢ 5 → (result.status ≡ 1) × Grew (K.taken sink.old) (K.taken sink.new) (codes "fault,memory\n") }
-    ensures failed { result.status ≡ 5 → Rose (K.faults sink.old) (K.faults sink.new) × ((at : ℕ) × Grew (K.taken sink.old) (K.taken sink.new) (take at (codes "fault,memory\n"))) }
+    ensures kept { result.status ≢ 5 → K.faults sink.new ≡ K.faults sink.old }
+    ensures failed { result.status ≡ 5 → Rose (K.faults sink.old) (K.faults sink.new) × ((at : ℕ) × (at < length (codes "fault,memory\n")) × Grew (K.taken sink.old) (K.taken sink.new) (take at (codes "fault,memory\n"))) }
 {
     let status = if write_all(sink, b"fault,memory\n") {
         1
@@ -206,9 +209,14 @@ pub fn deneva<S: Source, K: Sink>(
         × Rose (S.faults source.old) (S.faults source.new) × Grew (K.taken sink.old) (K.taken sink.new) (codes "fault,read\n") }
     ensures write { result.status ≡ 5 → Rose (K.faults sink.old) (K.faults sink.new)
         × ((status : ℕ) × (at : ℕ) × (run : Option Ran) × (text : List ℕ) × Answers (map string_bytes words.now) (S.left source.old) (S.left source.new) (S.faults source.old) (S.faults source.new) status run text
-        × Grew (K.taken sink.old) (K.taken sink.new) (take at text)) }
+        × (at < length text) × Grew (K.taken sink.old) (K.taken sink.new) (take at text)) }
+    ensures wrote { result.status ≢ 5 → K.faults sink.new ≡ K.faults sink.old }
 
-    // When each comes, but for want of memory.
+    // A source whose count of faults stays gives no status 4, and a sink whose count stays no status 5.
+    ensures sure_source { S.faults source.old < 2 ^ 64 - 1 → S.faults source.new ≡ S.faults source.old → result.status ≢ 4 }
+    ensures sure_sink { K.faults sink.old < 2 ^ 64 - 1 → K.faults sink.new ≡ K.faults sink.old → result.status ≢ 5 }
+
+    // When each comes, unless memory runs out.
     ensures refused { command_of (map string_bytes words.now) ≡ None → (result.status ≡ 2) ⊎ (result.status ≡ 1) ⊎ (result.status ≡ 5) }
     ensures unread { command_of (map string_bytes words.now) ≡ None → (S.left source.new ≡ S.left source.old) × (S.faults source.new ≡ S.faults source.old) }
     ensures faulty { IsAsked (map string_bytes words.now)

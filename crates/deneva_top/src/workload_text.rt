@@ -13,6 +13,6 @@ mod steps;
 mod texts;
 
 pub use faults::{FaultKind, InputFault, ReadError};
-pub use laws::{files_are_valid, valid_workloads_have_files};
+pub use laws::{files_are_valid, steps_are_all_read, valid_workloads_have_files};
 pub use lines::parse_workload;
 pub use sources::{read_bytes, read_workload};

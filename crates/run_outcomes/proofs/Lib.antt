@@ -1,7 +1,7 @@
 pub mod Aborting
 pub mod Finished
 pub mod Gathering
-pub mod Groups
+pub mod Grouped
 pub mod InFileOrder
 pub mod Locals
 pub mod NumberOrder

@@ -1,7 +1,7 @@
 use Rattle.std.proofs.Common.{◌≡◌, [], map, ◌+◌, ◌∷◌, ◌++◌, take, sym, ap, ◌∙◌, arith}
 use Rattle.std.proofs.lemmas.List.{take_more, map-append}
 use Rattle.server_core.specs.declared.messages.Entry.{Entry}
-use Rattle.run_outcomes.proofs.Groups.{group_count, group_pushed, about_none, about_other}
+use Rattle.run_outcomes.proofs.Grouped.{group_count, group_pushed, about_none, about_other}
 use Rattle.run_outcomes.proofs.groups.group.Goals as goal
 use Rattle.run_outcomes.proofs.groups.group.Goals.{in-Some+then-place-ge1+then-place-len+in_ok-push, in-Some+else-place-ge1, else-place-ge1-via-then-place-ge1+else-place-len, else-place-ge1-via-else-place-ge1, in_default}
 

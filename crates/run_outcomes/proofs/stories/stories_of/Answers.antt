@@ -5,7 +5,7 @@ use Rattle.txn_program.specs.Serial.{all_ids}
 use Rattle.txn_program.proofs.Ids.{few_ids, id_for_each}
 use Rattle.run_outcomes.specs.Stories.{Tells}
 use Rattle.run_outcomes.specs.declared.stories.Story.{Story}
-use Rattle.run_outcomes.proofs.Groups.{group_count, group_at}
+use Rattle.run_outcomes.proofs.Grouped.{group_count, group_at}
 use Rattle.run_outcomes.proofs.Places.{id_there, ids_more}
 use Rattle.run_outcomes.proofs.stories.stories_of.Goals as goal
 
