@@ -9,7 +9,7 @@ use deneva_base::{
 use server_core::{AbortList, DecidedList, GiveupList};
 use std::alloc::Global;
 use std::test::Fail;
-use txn_program::{Reason, SerialList, SerialRun, SerialTxn, Verdict};
+use txn_program::{Reason, Verdict};
 
 /// The report of `mixed`.
 const REPORT: &str = "deneva-report,1,maat,2
@@ -249,34 +249,6 @@ fn heads_name_the_kind(rt: HostRuntime) -> Result<(), Fail> {
             brief.as_bytes()
         );
     }
-    Ok(())
-}
-
-#[test]
-fn a_serial_run_has_an_outcome(rt: HostRuntime) -> Result<(), Fail> {
-    let mut reads = RowList::new(rt.alloc());
-    reads.push(keyed_of(rt.alloc(), key_of(0, 9, 0, 0), Some("q"), None)?)?;
-    let mut runs = SerialList::new(rt.alloc());
-    runs.push(SerialTxn {
-        id: TxnId(3),
-        reads,
-        verdict: Verdict::Commit,
-        answer: 12,
-    })?;
-    let run = SerialRun {
-        runs,
-        rows: last_rows(rt.alloc())?,
-    };
-    let outcome = serial_outcome(rt.alloc(), run)?;
-    assert_eq!(rt;
-        outcome.decided.get(0).number,
-        Number { n: 3, id: TxnId(3) }
-    );
-    let text = write_lines(rt.alloc(), &outcome)?;
-    let wanted =
-        "deneva-report,1,serial,1\ncommit,3,3,12,0\nread,0.9.0.0,q\nrow,0.1.0.0,z\nrow,0.9.0.0,\n\
-        row,1.7.0.0,w,-12\nrow,7.1.2.3\nend\n";
-    assert_eq!(rt; text.as_slice(), wanted.as_bytes());
     Ok(())
 }
 

@@ -10,7 +10,7 @@ step-requires c =
     let inv = c.loop-msg.invariant in
     let one = fit_one (role_of c.loop-msg.coord) inv.0 c.args.msgs.now c.loop-msg.msg-index c.msg-item.result c.loop-msg-test.true inv.1.1 in
     let h = c.msg-item.is in
-    record { fits = (one.0.0, (inv.0, (inv.1.0, subst (λ m. FitsRole (role_of c.loop-msg.coord) one.0.0 m inv.0) (sym c.msg-item.is) one.0.1))) }
+    record { fits = (one.0.0, (inv.0, inv.1.0, subst (λ m. FitsRole (role_of c.loop-msg.coord) one.0.0 m inv.0) (sym c.msg-item.is) one.0.1)) }
 
 pub loop-msg-preserved : goal.loop-msg-preserved
 loop-msg-preserved c =
