@@ -4,9 +4,9 @@ use Rattle.std.proofs.lemmas.List.Elements.{filter-append}
 use Rattle.deneva_base.specs.Partitions.{partition_of}
 use Rattle.deneva_base.specs.declared.rows.Keyed.{Keyed}
 use Rattle.txn_program.specs.Transactions.{effect_at}
-use Rattle.txn_program.specs.declared.effects.Effect.{Effect}
-use Rattle.txn_program.specs.declared.effects.Verdict.{Verdict}
-use Rattle.txn_program.specs.declared.effects.Verdict.TheVariants.{Commit, Rollback}
+use Rattle.tpcc_rules.specs.declared.effects.Effect.{Effect}
+use Rattle.tpcc_rules.specs.declared.effects.Verdict.{Verdict}
+use Rattle.tpcc_rules.specs.declared.effects.Verdict.TheVariants.{Commit, Rollback}
 use Rattle.server_core.specs.Coordinator.{at_part}
 use Rattle.server_core.specs.Effects.{lasting, leaves}
 

@@ -4,7 +4,7 @@ ghost use Rattle.deneva_base.specs.Lists.{IsIn};
 ghost use Rattle.deneva_base.specs.declared.rows.Keyed as keyed;
 ghost use Rattle.row_store.specs.Stores.{row_in};
 ghost use Rattle.txn_program.specs.Serial.{all_ids};
-ghost use Rattle.txn_program.specs.Transactions.{as_read};
+ghost use Rattle.tpcc_rules.specs.ReadRows.{as_read};
 ghost use Rattle.calvin_sched.specs.Arrivals.{arrivals_at};
 ghost use Rattle.server_core.specs.CalvinFits.{Suits};
 ghost use Rattle.server_core.specs.Effects.{leaves};

@@ -11,10 +11,10 @@ use Rattle.deneva_base.specs.declared.numbers.Attempt.{Attempt}
 use Rattle.deneva_base.specs.declared.rows.Cell.{Cell}
 use Rattle.deneva_base.specs.declared.rows.Cell.TheVariants.{Num, Text}
 use Rattle.deneva_base.specs.declared.rows.Keyed.{Keyed}
-use Rattle.txn_program.specs.declared.effects.Reason.{Reason}
-use Rattle.txn_program.specs.declared.effects.Reason.TheVariants.{UnusedItem, Range}
-use Rattle.txn_program.specs.declared.effects.Verdict.{Verdict}
-use Rattle.txn_program.specs.declared.effects.Verdict.TheVariants.{Commit, Rollback}
+use Rattle.tpcc_rules.specs.declared.effects.Reason.{Reason}
+use Rattle.tpcc_rules.specs.declared.effects.Reason.TheVariants.{UnusedItem, Range}
+use Rattle.tpcc_rules.specs.declared.effects.Verdict.{Verdict}
+use Rattle.tpcc_rules.specs.declared.effects.Verdict.TheVariants.{Commit, Rollback}
 use Rattle.server_core.specs.declared.outcomes.AbortLine.{AbortLine}
 use Rattle.server_core.specs.declared.outcomes.Decided.{Decided}
 use Rattle.server_core.specs.declared.outcomes.Giveup.{Giveup}

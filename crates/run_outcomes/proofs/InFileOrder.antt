@@ -11,9 +11,9 @@ use Rattle.deneva_base.specs.declared.numbers.TxnId.{TxnId}
 use Rattle.deneva_base.specs.declared.rows.Keyed.{Keyed}
 use Rattle.deneva_base.proofs.PutRows.{keys_rise-put_all}
 use Rattle.txn_program.specs.Serial.{serial, all_ids, ids_from, turns, settled, map_after, last_map, effect_on}
-use Rattle.txn_program.specs.declared.effects.Effect.{Effect}
-use Rattle.txn_program.specs.declared.effects.Verdict.{Verdict}
-use Rattle.txn_program.specs.declared.effects.Verdict.TheVariants.{Commit, Rollback}
+use Rattle.tpcc_rules.specs.declared.effects.Effect.{Effect}
+use Rattle.tpcc_rules.specs.declared.effects.Verdict.{Verdict}
+use Rattle.tpcc_rules.specs.declared.effects.Verdict.TheVariants.{Commit, Rollback}
 use Rattle.txn_program.specs.declared.programs.Program.{Program}
 use Rattle.txn_program.specs.declared.programs.Workload.{Workload}
 use Rattle.txn_program.specs.declared.serial.SerialTxn.{SerialTxn}

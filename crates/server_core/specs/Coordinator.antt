@@ -13,7 +13,7 @@ use Rattle.server_core.specs.declared.messages.Msg.{Msg}
 use Rattle.server_core.specs.declared.messages.Msg.TheVariants.{Start, Ask, Granted, Refused, Prepare, Yes, No, Commit, Abort, Done, Undone}
 use Rattle.server_core.specs.declared.messages.Mail.{Mail}
 use Rattle.deneva_base.specs.declared.keys.Access.{Access}
-use Rattle.txn_program.specs.declared.effects.Effect.{Effect}
+use Rattle.tpcc_rules.specs.declared.effects.Effect.{Effect}
 use Rattle.server_core.specs.Effects.{written, appended}
 use Rattle.server_core.specs.Setting.{Setting, homes, partitions_of, take_first}
 use Rattle.deneva_base.specs.Partitions.{partition_of}

@@ -1,9 +1,9 @@
 -- The rows that an effect leaves: those that it writes and appends, and none where it rolls back.
 use Rattle.std.specs.Prelude.{List, [], ◌++◌}
 use Rattle.deneva_base.specs.declared.rows.Keyed.{Keyed}
-use Rattle.txn_program.specs.declared.effects.Verdict.{Verdict}
-use Rattle.txn_program.specs.declared.effects.Verdict.TheVariants.{Commit, Rollback}
-use Rattle.txn_program.specs.declared.effects.Effect.{Effect}
+use Rattle.tpcc_rules.specs.declared.effects.Verdict.{Verdict}
+use Rattle.tpcc_rules.specs.declared.effects.Verdict.TheVariants.{Commit, Rollback}
+use Rattle.tpcc_rules.specs.declared.effects.Effect.{Effect}
 
 abbrev pub lasting : Verdict → List Keyed → List Keyed
 lasting Commit rows = rows

@@ -16,7 +16,7 @@ use Rattle.txn_program.specs.Serial.{program_of, all_ids}
 use Rattle.txn_program.specs.Transactions.{accesses, effect}
 pub use Rattle.txn_program.specs.Transactions.{partitions_of}
 use Rattle.txn_program.specs.WellFormed.{is_well_formed}
-use Rattle.txn_program.specs.declared.effects.Effect.{Effect}
+use Rattle.tpcc_rules.specs.declared.effects.Effect.{Effect}
 use Rattle.txn_program.specs.declared.programs.Workload.{Workload}
 
 pub record Setting : Type 0 where

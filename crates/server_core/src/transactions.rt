@@ -2,7 +2,8 @@
 ghost use Rattle.std.specs.Prelude.{◌≡◌, ◌<◌, map, IfOk};
 ghost use Rattle.deneva_base.specs.Lists.{IsIn};
 ghost use Rattle.txn_program.specs.Serial.{all_ids, program_of};
-ghost use Rattle.txn_program.specs.Transactions.{as_read, effect_at};
+ghost use Rattle.tpcc_rules.specs.ReadRows.{as_read};
+ghost use Rattle.txn_program.specs.Transactions.{effect_at};
 ghost use Rattle.server_core.specs.Roles.{setting_of, accesses_at};
 ghost use Rattle.server_core.specs.Setting.{home, homes, participants_for};
 

@@ -25,9 +25,9 @@ use Rattle.txn_program.specs.declared.programs.Program.{Program}
 use Rattle.txn_program.specs.declared.programs.Program.TheVariants.{Ycsb}
 use Rattle.txn_program.specs.declared.programs.Load.{Load}
 use Rattle.txn_program.specs.declared.programs.Workload.{Workload}
-use Rattle.txn_program.specs.declared.effects.Effect.{Effect}
-use Rattle.txn_program.specs.declared.effects.Reason.{Reason}
-use Rattle.txn_program.specs.declared.effects.Verdict.TheVariants.{Rollback}
+use Rattle.tpcc_rules.specs.declared.effects.Effect.{Effect}
+use Rattle.tpcc_rules.specs.declared.effects.Reason.{Reason}
+use Rattle.tpcc_rules.specs.declared.effects.Verdict.TheVariants.{Rollback}
 use Rattle.txn_program.specs.Apart.{DistinctBy}
 use Rattle.txn_program.specs.Serial.{program_of}
 use Rattle.txn_program.specs.Transactions.{access_of, accesses, effect, mode_of, participants, reading, written, written_to, ycsb_key}

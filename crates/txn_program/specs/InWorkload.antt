@@ -4,7 +4,7 @@ use Rattle.deneva_base.specs.declared.keys.Access.{Access}
 use Rattle.deneva_base.specs.declared.rows.Keyed.{Keyed}
 use Rattle.deneva_base.specs.declared.numbers.TxnId.{TxnId}
 use Rattle.txn_program.specs.declared.programs.Workload.{Workload}
-use Rattle.txn_program.specs.declared.effects.Effect.{Effect}
+use Rattle.tpcc_rules.specs.declared.effects.Effect.{Effect}
 use Rattle.txn_program.specs.Serial.{program_of}
 use Rattle.txn_program.specs.Transactions.{accesses, effect, home_of, participants}
 

@@ -1,9 +1,9 @@
 -- A transaction as a function: its accesses, its effect on the rows that it reads, and its partitions.
-use Rattle.std.specs.Prelude.{ℕ, zero, suc, ◌==◌, pos, Bool, true, List, [], ◌∷◌, ◌++◌, map, slice_set, Option, Some, None, option_map}
+use Rattle.std.specs.Prelude.{ℕ, zero, suc, ◌==◌, pos, Bool, true, List, [], ◌∷◌, ◌++◌, map, slice_set, Option, Some, None}
 use Rattle.std.specs.List.{list_any, filter, filter_map}
 use Rattle.deneva_base.specs.Modes.{reads}
 use Rattle.deneva_base.specs.Partitions.{partition_of}
-use Rattle.deneva_base.specs.Rows.{row_at, row_or_empty}
+use Rattle.deneva_base.specs.Rows.{row_at}
 use Rattle.deneva_base.specs.declared.keys.Key.{Key}
 use Rattle.deneva_base.specs.declared.keys.Mode as modes
 use Rattle.deneva_base.specs.declared.keys.Mode.TheVariants as mode
@@ -18,9 +18,8 @@ use Rattle.txn_program.specs.declared.programs.YcsbStep.{YcsbStep}
 use Rattle.txn_program.specs.declared.programs.Program.{Program}
 use Rattle.txn_program.specs.declared.programs.Program.TheVariants.{Ycsb}
 use Rattle.txn_program.specs.declared.programs.Load.{Load}
-use Rattle.txn_program.specs.declared.effects.Verdict.TheVariants.{Commit}
-use Rattle.txn_program.specs.declared.effects.Effect.{Effect}
-use Rattle.txn_program.specs.declared.read_rows.ReadRow.{ReadRow}
+use Rattle.tpcc_rules.specs.declared.effects.Verdict.TheVariants.{Commit}
+use Rattle.tpcc_rules.specs.declared.effects.Effect.{Effect}
 
 -- the key of a YCSB row
 abbrev pub ycsb_key : ℕ → Key
@@ -41,10 +40,6 @@ accesses load (Ycsb steps) = map access_of steps
 -- those that read
 abbrev pub reading : List Access → List Access
 reading list = filter (λ a. reads a.mode) list
-
--- a row as it is read: one without cells where the key is absent
-abbrev pub as_read : ReadRow → Keyed
-as_read r = record { key = r.key; row = row_or_empty (option_map (λ c. c.now) r.row) }
 
 -- what is written to a key, where the transaction reads these rows: an Update its row with one field replaced, a Put its own
 abbrev pub written_to : List Keyed → Key → YcsbAct → Option Keyed

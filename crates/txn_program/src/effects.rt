@@ -4,39 +4,15 @@ ghost use Rattle.std.specs.List.{filter_map};
 ghost use Rattle.deneva_base.specs.Rows.{row_at};
 ghost use Rattle.deneva_base.specs.declared.rows.Cell.TheVariants.{Text};
 ghost use Rattle.deneva_base.specs.declared.rows.Keyed as keyed;
-ghost use Rattle.txn_program.specs.Transactions.{as_read, effect, effect_within, rows_within, written, ycsb_key};
+ghost use Rattle.tpcc_rules.specs.ReadRows.{as_read};
+ghost use Rattle.txn_program.specs.Transactions.{effect, effect_within, rows_within, written, ycsb_key};
 
 use crate::accesses::ycsb_key_of;
 use crate::partitions::{Partition, is_within};
 use crate::programs::{Load, Program, YcsbAct, YcsbPut, YcsbStep};
-use crate::read_rows::{ReadRow, cells_of, rows_lying};
 use deneva_base::{ByteList, Cell, CellList, Key, Keyed, NoMemory, Row, RowList, TxnId};
 use std::alloc::Global;
-
-/// Why a transaction rolled itself back.
-#[derive(Clone, Copy, Debug, PartialEq, Eq)]
-pub enum Reason {
-    /// A line orders an item that is not loaded.
-    UnusedItem { item: u32 },
-    /// A value of the row at this key would leave its range.
-    Range { key: Key },
-}
-
-/// How a transaction ends by its own logic.
-#[derive(Clone, Copy, Debug, PartialEq, Eq)]
-pub enum Verdict {
-    Commit,
-    Rollback(Reason),
-}
-
-/// What a transaction does: rows that replace rows, rows that are appended, and the number that it answers.
-#[derive(Debug, Drop)]
-pub struct Effect {
-    pub verdict: Verdict,
-    pub writes: RowList,
-    pub appends: RowList,
-    pub answer: i64,
-}
+use tpcc_rules::{Effect, ReadRow, Verdict, cells_of, rows_lying};
 
 /// A copy of the cells, one of which is replaced by a text.
 fn with_text(alloc: Global, cells: &[Cell], field: u8, text: ByteList) -> Result<CellList, NoMemory>

@@ -6,7 +6,6 @@ mod effects;
 mod laws;
 mod partitions;
 mod programs;
-mod read_rows;
 mod serial;
 #[cfg(test)]
 mod tests;
@@ -15,15 +14,15 @@ mod validity;
 
 pub use accesses::{accesses_of, home, ycsb_key_of};
 use deneva_base::Items;
-pub use effects::{Effect, Reason, Verdict, effect_of, effect_within};
+pub use effects::{effect_of, effect_within};
 pub use laws::{
     accesses_are_lawful, effects_are_lawful, ids_are_lawful, loads_are_lawful,
     participants_are_lawful,
 };
 pub use partitions::{Partition, partitions_of};
 pub use programs::{Load, Program, WorkKind, Workload, YcsbAct, YcsbPut, YcsbStep};
-pub use read_rows::{ReadRow, row_among};
 pub use serial::{SerialRun, SerialTxn};
+pub use tpcc_rules::{Effect, ReadRow, Reason, Verdict, row_among};
 pub use validity::valid;
 
 /// The steps of a YCSB transaction.

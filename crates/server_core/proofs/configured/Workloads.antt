@@ -21,8 +21,8 @@ use Rattle.txn_program.specs.InWorkload.{accesses_in, effect_in}
 use Rattle.txn_program.specs.Serial.{all_ids}
 use Rattle.txn_program.specs.Valid.{IsValid}
 use Rattle.txn_program.specs.WellFormed.{is_well_formed, FitReads}
-use Rattle.txn_program.specs.declared.effects.Verdict.{Verdict}
-use Rattle.txn_program.specs.declared.effects.Verdict.TheVariants.{Commit, Rollback}
+use Rattle.tpcc_rules.specs.declared.effects.Verdict.{Verdict}
+use Rattle.tpcc_rules.specs.declared.effects.Verdict.TheVariants.{Commit, Rollback}
 use Rattle.txn_program.specs.declared.programs.Workload.{Workload}
 use Rattle.txn_program.proofs.ReadRows.{fits_with_read, fits_with_put}
 use Rattle.txn_program.proofs.WorkloadLaws as law

@@ -21,7 +21,7 @@ use Rattle.server_core.specs.declared.messages.Msg.TheVariants.{Start, Ask, Gran
 use Rattle.server_core.specs.declared.messages.Mail.{Mail}
 use Rattle.server_core.specs.Setting.{Setting, partitions_of, rule_at, homes, participants}
 use Rattle.deneva_base.specs.declared.keys.Access.{Access}
-use Rattle.txn_program.specs.declared.effects.Effect.{Effect}
+use Rattle.tpcc_rules.specs.declared.effects.Effect.{Effect}
 use Rattle.server_core.specs.Replies.{Reply, grants_for, votes_for, closes_for, all_voted, all_closed}
 use Rattle.server_core.specs.declared.ballots.Ballot.{Ballot}
 use Rattle.txn_program.specs.Transactions.{numbers_below}

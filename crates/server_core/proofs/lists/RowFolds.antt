@@ -11,7 +11,7 @@ use Rattle.deneva_base.proofs.Membership.{key_tells}
 use Rattle.deneva_base.proofs.Membership.{in_cases}
 use Rattle.deneva_base.specs.Partitions.{partition_of}
 use Rattle.server_core.specs.Coordinator.{at_part}
-use Rattle.txn_program.specs.declared.effects.Effect.{Effect}
+use Rattle.tpcc_rules.specs.declared.effects.Effect.{Effect}
 use Rattle.server_core.specs.Effects.{leaves, written, appended}
 use Rattle.server_core.specs.CalvinScheduler.{changed}
 

@@ -15,9 +15,9 @@ use Rattle.deneva_base.proofs.Membership.{key_tells}
 use Rattle.txn_program.specs.Apart.{DistinctBy}
 use Rattle.txn_program.specs.Serial.{reads_from, reads_of, effect_on, settled, map_after, turn, turns, last_map, serial}
 use Rattle.txn_program.specs.Transactions.{reading}
-use Rattle.txn_program.specs.declared.effects.Effect.{Effect}
-use Rattle.txn_program.specs.declared.effects.Verdict.{Verdict}
-use Rattle.txn_program.specs.declared.effects.Verdict.TheVariants.{Commit, Rollback}
+use Rattle.tpcc_rules.specs.declared.effects.Effect.{Effect}
+use Rattle.tpcc_rules.specs.declared.effects.Verdict.{Verdict}
+use Rattle.tpcc_rules.specs.declared.effects.Verdict.TheVariants.{Commit, Rollback}
 use Rattle.txn_program.specs.declared.programs.Workload.{Workload}
 use Rattle.txn_program.specs.declared.serial.SerialTxn.{SerialTxn}
 use Rattle.server_core.specs.Effects.{lasting, leaves}

@@ -503,7 +503,7 @@ module _ (s : Setting) (v : Valid s) (H : List Entry) (flight : List Mail) (g : 
       replies : List Reply
       replies = reverse (grants_for who (heard (home s who.txn) H))
 
-      eff : Rattle.txn_program.specs.declared.effects.Effect.Effect
+      eff : Rattle.tpcc_rules.specs.declared.effects.Effect.Effect
       eff = effect_of s who.txn replies
 
       eqb_is : (a b : ℕ) → eqb a b ≡ true → a ≡ b

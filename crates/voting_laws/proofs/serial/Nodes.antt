@@ -18,7 +18,7 @@ use Rattle.deneva_base.specs.Partitions.{partition_of}
 use Rattle.server_core.specs.Participant.{calls, node_rows}
 use Rattle.server_core.specs.Effects.{written, appended, leaves}
 use Rattle.server_core.specs.Coordinator.{effect_of, reads_of}
-use Rattle.txn_program.specs.declared.effects.Effect.{Effect}
+use Rattle.tpcc_rules.specs.declared.effects.Effect.{Effect}
 use Rattle.server_core.specs.Proper.{Valid}
 use Rattle.server_core.specs.Runs.{heard}
 use Rattle.server_core.specs.declared.outcomes.Decided.{Decided as Line}

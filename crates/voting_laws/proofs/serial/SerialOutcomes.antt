@@ -21,7 +21,7 @@ use Rattle.server_core.specs.declared.messages.Entry.{Entry}
 use Rattle.server_core.specs.Setting.{Setting, home, partitions_of, take_first}
 use Rattle.deneva_base.specs.declared.keys.Access.{Access}
 use Rattle.server_core.specs.Replies.{Reply, grants_for, refused_for, started_for, all_closed}
-use Rattle.txn_program.specs.declared.effects.Effect.{Effect}
+use Rattle.tpcc_rules.specs.declared.effects.Effect.{Effect}
 use Rattle.deneva_base.specs.Partitions.{partition_of}
 use Rattle.server_core.specs.Coordinator.{told, effect_of, reads_of}
 use Rattle.server_core.specs.VotingFits.{AllFit, IsAborted, Decides}

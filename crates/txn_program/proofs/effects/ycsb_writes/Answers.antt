@@ -4,7 +4,8 @@ use Rattle.std.specs.Prelude.{filter, Option}
 use Rattle.std.specs.List.{filter_map}
 use Rattle.deneva_base.specs.declared.rows.Keyed.{Keyed}
 use Rattle.txn_program.specs.declared.programs.YcsbStep.{YcsbStep}
-use Rattle.txn_program.specs.Transactions.{as_read, is_within, written}
+use Rattle.tpcc_rules.specs.ReadRows.{as_read}
+use Rattle.txn_program.specs.Transactions.{is_within, written}
 use Rattle.txn_program.proofs.Within.{within_by_key}
 use Rattle.txn_program.proofs.effects.ycsb_writes.Goals as goal
 

@@ -2,7 +2,8 @@ use Rattle.std.proofs.Common.{◌≡◌, ◌++◌, drop}
 use Rattle.std.specs.Prelude.{filter, map}
 use Rattle.std.specs.List.{filter_map}
 use Rattle.deneva_base.specs.declared.rows.Keyed.{Keyed}
-use Rattle.txn_program.specs.Transactions.{as_read, is_within, written}
+use Rattle.tpcc_rules.specs.ReadRows.{as_read}
+use Rattle.txn_program.specs.Transactions.{is_within, written}
 use Rattle.txn_program.proofs.effects.ycsb_writes.Given as goal
 
 -- what was written so far, and what of the writes of the steps that are left is made

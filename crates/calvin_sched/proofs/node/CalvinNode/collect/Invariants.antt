@@ -5,7 +5,7 @@ use Rattle.deneva_base.specs.Partitions.{partition_of}
 use Rattle.deneva_base.specs.Rows.{row_at}
 use Rattle.deneva_base.specs.declared.keys.Access.{Access}
 use Rattle.deneva_base.specs.declared.rows.Keyed.{Keyed}
-use Rattle.txn_program.specs.Transactions.{as_read}
+use Rattle.tpcc_rules.specs.ReadRows.{as_read}
 use Rattle.calvin_sched.specs.Reading.{rows_with}
 use Rattle.calvin_sched.proofs.node.CalvinNode.collect.Given as goal
 

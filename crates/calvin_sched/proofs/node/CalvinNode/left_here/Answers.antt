@@ -1,6 +1,6 @@
 use Rattle.std.proofs.Common.{map, ap, ◌∙◌}
 use Rattle.std.proofs.lemmas.Result.{IfOk-weaker}
-use Rattle.txn_program.specs.Transactions.{as_read}
+use Rattle.tpcc_rules.specs.ReadRows.{as_read}
 use Rattle.server_core.specs.Effects.{leaves}
 use Rattle.server_core.specs.Roles.{setting_of}
 use Rattle.calvin_sched.specs.Reading.{left_at}

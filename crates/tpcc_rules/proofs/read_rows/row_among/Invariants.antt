@@ -1,6 +1,6 @@
 use Rattle.std.proofs.Common.{◌≡◌, drop}
 use Rattle.deneva_base.specs.Rows.{row_at, row_of}
-use Rattle.txn_program.proofs.read_rows.row_among.Given as goal
+use Rattle.tpcc_rules.proofs.read_rows.row_among.Given as goal
 
 -- the row is in what is left
 abbrev pub invariant-loop-keyed : goal.invariant-loop-keyed

@@ -1,7 +1,7 @@
 //! Rows that transactions read, found by their keys.
 ghost use Rattle.std.specs.Prelude.{◌≡◌, map, IfOk, option_map};
 ghost use Rattle.deneva_base.specs.Rows.{row_at, row_of, row_or_empty};
-ghost use Rattle.txn_program.specs.Transactions.{as_read};
+ghost use Rattle.tpcc_rules.specs.ReadRows.{as_read};
 
 use deneva_base::{Cell, Key, Keyed, NoMemory, Row};
 use std::alloc::Global;
@@ -27,7 +27,7 @@ pub fn row_among<'r>(rows: &'r [Keyed], key: Key) -> Option<&'r Row>
 }
 
 /// The rows of a list, where they lie in it.
-pub(crate) fn rows_lying<'r>(alloc: Global, rows: &'r [Keyed]) -> Result<Vec<ReadRow<'r>>, NoMemory>
+pub fn rows_lying<'r>(alloc: Global, rows: &'r [Keyed]) -> Result<Vec<ReadRow<'r>>, NoMemory>
     ensures { IfOk result (λ list. map as_read list.items ≡ rows.now) }
 {
     let mut list = Vec::new(alloc);
@@ -41,7 +41,7 @@ pub(crate) fn rows_lying<'r>(alloc: Global, rows: &'r [Keyed]) -> Result<Vec<Rea
 }
 
 /// The cells of the row of a key, or none where the key is absent.
-pub(crate) fn cells_of<'r>(rows: &[ReadRow<'r>], key: Key) -> &'r [Cell]
+pub fn cells_of<'r>(rows: &[ReadRow<'r>], key: Key) -> &'r [Cell]
     ensures { result.now ≡ row_at (map as_read rows.now) key }
 {
     for read in rows {

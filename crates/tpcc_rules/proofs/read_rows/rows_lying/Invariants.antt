@@ -1,6 +1,6 @@
 use Rattle.std.proofs.Common.{◌≡◌, map, take}
-use Rattle.txn_program.specs.Transactions.{as_read}
-use Rattle.txn_program.proofs.read_rows.rows_lying.Given as goal
+use Rattle.tpcc_rules.specs.ReadRows.{as_read}
+use Rattle.tpcc_rules.proofs.read_rows.rows_lying.Given as goal
 
 -- the list has the rows that were passed
 abbrev pub invariant-loop-keyed : goal.invariant-loop-keyed

@@ -1,7 +1,7 @@
 use Rattle.std.proofs.Common.{◌≡◌, map, drop}
 use Rattle.deneva_base.specs.Rows.{row_at}
-use Rattle.txn_program.specs.Transactions.{as_read}
-use Rattle.txn_program.proofs.read_rows.cells_of.Given as goal
+use Rattle.tpcc_rules.specs.ReadRows.{as_read}
+use Rattle.tpcc_rules.proofs.read_rows.cells_of.Given as goal
 
 -- the row is in what is left
 abbrev pub invariant-loop-read : goal.invariant-loop-read

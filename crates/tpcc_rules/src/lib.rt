@@ -1,0 +1,22 @@
+//! The rules of TPC-C: the tables, what Payment and NewOrder make of the rows that they read, and the names of customers.
+#![tactic(auto)]
+
+mod cells;
+mod effects;
+mod payments;
+mod programs;
+mod read_rows;
+
+pub use cells::{
+    is_district_row, is_warehouse_row, number_at, raised_copy, text_at, warehouse_copy,
+};
+use deneva_base::Items;
+pub use effects::{Effect, Reason, Verdict};
+pub use payments::payment_effect;
+pub use programs::{Item, Line, NewOrder, Payment};
+pub use read_rows::{ReadRow, cells_of, row_among, rows_lying};
+
+/// The lines of a new order.
+pub type LineList = Items<Line>;
+/// The items of a load.
+pub type ItemList = Items<Item>;
