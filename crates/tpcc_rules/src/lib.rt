@@ -3,6 +3,7 @@
 
 mod cells;
 mod effects;
+mod items;
 mod payments;
 mod programs;
 mod read_rows;
@@ -12,11 +13,10 @@ pub use cells::{
 };
 use deneva_base::Items;
 pub use effects::{Effect, Reason, Verdict};
+pub use items::ItemList;
 pub use payments::payment_effect;
 pub use programs::{Item, Line, NewOrder, Payment};
 pub use read_rows::{ReadRow, cells_of, row_among, rows_lying};
 
 /// The lines of a new order.
 pub type LineList = Items<Line>;
-/// The items of a load.
-pub type ItemList = Items<Item>;
