@@ -1,5 +1,5 @@
 -- Items whose numbers rise: what a look-up by halves finds among them, and that they have numbers of their own.
-use Rattle.std.proofs.Common.{◌≡◌, ℕ, zero, suc, ◌+◌, ◌-◌, ◌<◌, ◌≤◌, ◌==◌, List, [], ◌∷◌, ◌++◌, Bool, true, false, not, ◌&&◌, ◌||◌, length, get_or, Ok, Err, Result, Option, Some, None, refl, sym, ap, subst, ◌∙◌, inl, inr, ⊎_elim, absurd, arith}
+use Rattle.std.proofs.Common.{◌≡◌, ℕ, zero, suc, ◌+◌, ◌-◌, ◌<◌, ◌≤◌, ◌==◌, List, [], ◌∷◌, ◌++◌, Bool, true, false, not, ◌&&◌, ◌||◌, length, get_or, take, drop, Ok, Err, Result, Option, Some, None, refl, sym, ap, subst, ◌∙◌, inl, inr, ⊎_elim, arith}
 use Rattle.std.specs.Prelude.{nat_lt, slice_get}
 use Rattle.std.specs.List.{find, list_any}
 use Rattle.std.specs.List.Sorted.{IsSearchInRange, IsBinarySearchResult, IsSortedBy}
@@ -8,6 +8,7 @@ use Rattle.std.specs.declared.cmp.Ordering.TheVariants.{Less, Equal, Greater}
 use Rattle.std.proofs.lemmas.Bool.{and_parts, and_from, cases_lt, ltb-true, or_from, false_from_ne_true, false≢true}
 use Rattle.std.proofs.lemmas.Bool.Decides.{nat_tests}
 use Rattle.std.proofs.lemmas.Cmp.{nat_cmp_total}
+use Rattle.std.proofs.lemmas.List.{take_all}
 use Rattle.std.proofs.lemmas.List.Folds.{list_any_none}
 use Rattle.std.proofs.lemmas.List.Sorted.{searchable_from_sorted}
 use Rattle.std.proofs.lemmas.Option.{same_Some}
@@ -19,17 +20,21 @@ numbers_eq x y = grind (arith, nat_tests)
 
 -- one more item at the end
 
-last_from : ℕ → List Item → ℕ
+abbrev last_from : ℕ → List Item → ℕ
 last_from n [] = n
 last_from n (i ∷ items) = last_from i.number items
 
+regroup : (a b c : Bool) → (a && (b && c)) ≡ ((a && b) && c)
+regroup true b c = refl
+regroup false b c = refl
+
+and_true : (b : Bool) → (b && true) ≡ b
+and_true true = refl
+and_true false = refl
+
 rise_after-push : (n : ℕ) (items : List Item) (x : Item) → rise_after n (items ++ x ∷ []) ≡ (rise_after n items && nat_lt (last_from n items) x.number)
-rise_after-push n [] x = grind (arith, nat_tests)
+rise_after-push n [] x = and_true (nat_lt n x.number)
 rise_after-push n (i ∷ items) x = ap (λ b. nat_lt n i.number && b) (rise_after-push i.number items x) ∙ regroup (nat_lt n i.number) _ _
-  where
-    regroup : (a b c : Bool) → (a && (b && c)) ≡ ((a && b) && c)
-    regroup true b c = refl
-    regroup false b c = refl
 
 last_is : (i : Item) (items : List Item) (last : Item) → slice_get (i ∷ items) (length items) ≡ Some last → last_from i.number items ≡ last.number
 last_is i [] last e = ap (λ (q : Item). q.number) (same_Some i last e)
@@ -37,7 +42,11 @@ last_is i (q ∷ items) last e = last_is q items last e
 
 pub numbers_rise-push : (items : List Item) (x last : Item) → Some last ≡ slice_get items (length items - 1) → (numbers_rise items && nat_lt last.number x.number) ≡ numbers_rise (items ++ x ∷ [])
 numbers_rise-push [] x last e = absurd (cc (e))
-numbers_rise-push (i ∷ items) x last e = rw (← last_is i items last (sym e)) (sym (rise_after-push i.number items x))
+numbers_rise-push (i ∷ items) x last e = rw (← last_is i items last (sym (subst (λ k. Some last ≡ slice_get (i ∷ items) k) (omega arith) e))) (sym (rise_after-push i.number items x))
+
+pub falls_on : (items : List Item) (x : Item) → numbers_rise items ≡ false → false ≡ numbers_rise (items ++ x ∷ [])
+falls_on [] x h = absurd (false≢true (sym h))
+falls_on (i ∷ items) x h = sym (rise_after-push i.number items x ∙ ap (λ b. b && nat_lt (last_from i.number items) x.number) h)
 
 -- a number below the first is below each
 
@@ -75,13 +84,13 @@ found_at (i ∷ items) (suc at) n d h within e =
     rw (not_eq i.number n (let far = below i.number items at d h (omega arith) in omega (arith, far, e)))
     (found_at items at n d (tail_rises i items h) (omega arith) e)
 
+or_none : (a b : Bool) → (a || b) ≡ false → (a ≡ false) × (b ≡ false)
+or_none true b h = absurd (false≢true (sym h))
+or_none false b h = (refl, h)
+
 find_none : (n : ℕ) (items : List Item) → is_item items n ≡ false → item_numbered items n ≡ None
 find_none n [] h = refl
-find_none n (i ∷ items) h = go (i.number == n) refl
-  where
-    go : (b : Bool) → (i.number == n) ≡ b → item_numbered (i ∷ items) n ≡ None
-    go true e = absurd (false≢true (sym h ∙ ap (λ b. b || is_item items n) e))
-    go false e = rw e (find_none n items (sym (ap (λ b. b || is_item items n) e) ∙ h))
+find_none n (i ∷ items) h = rw (or_none (i.number == n) (is_item items n) h).0 (find_none n items (or_none (i.number == n) (is_item items n) h).1)
 
 by_cmp : (x y : ℕ) → is_eq (nat_cmp x y) ≡ true → x ≡ y
 by_cmp x y e = grind (arith, nat_tests)
@@ -108,3 +117,19 @@ none_above n items h = list_any_none (λ i. i.number == n) items (λ k d within.
 pub own_from_rising : (items : List Item) → numbers_rise items ≡ true → have_own_numbers items ≡ true
 own_from_rising [] h = refl
 own_from_rising (i ∷ items) h = and_from _ _ (ap not (none_above i.number items h)) (own_from_rising items (tail_rises i items h))
+
+-- the items after the first
+
+-- no later item has the first one's number, so the later ones settle whether all have numbers of their own
+pub apart_after : (items : List Item) (d : Item) → 1 ≤ length items → is_item (take (length items - 1) (drop 1 items)) (get_or items 0 d).number ≡ false
+    → have_own_numbers (take (length items - 1) (drop 1 items)) ≡ have_own_numbers items
+apart_after [] d some h = absurd (omega arith)
+apart_after (i ∷ items) d some h =
+    let all : take (length (i ∷ items) - 1) (drop 1 (i ∷ items)) ≡ items = take_all (length (i ∷ items) - 1) items (omega arith) in
+    rw all (sym (ap (λ b. not b && have_own_numbers items) (rw all at h)))
+
+pub apart_not : (items : List Item) (d : Item) → 1 ≤ length items → is_item (take (length items - 1) (drop 1 items)) (get_or items 0 d).number ≡ true → false ≡ have_own_numbers items
+apart_not [] d some h = absurd (omega arith)
+apart_not (i ∷ items) d some h =
+    let all : take (length (i ∷ items) - 1) (drop 1 (i ∷ items)) ≡ items = take_all (length (i ∷ items) - 1) items (omega arith) in
+    sym (ap (λ b. not b && have_own_numbers items) (rw all at h))

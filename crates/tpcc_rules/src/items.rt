@@ -1,9 +1,6 @@
 //! The items of a load.
 ghost use Rattle.std.specs.Prelude.{◌≡◌, ◌++◌, ◌∷◌, [], ◌<◌, ◌^◌, ◌&&◌, true, length, option_map, IfOk, OnOk, OnErr};
-ghost use Rattle.std.proofs.Common.{rules};
-ghost use Rattle.std.specs.Cmp.Rules.{comparing};
-ghost use Rattle.tpcc_rules.specs.Items.{have_own_numbers, item_numbered, numbers_rise};
-ghost use lib.Pointwise.{pointwise};
+ghost use Rattle.tpcc_rules.specs.Items.{have_own_numbers, is_item, item_numbered, numbers_rise};
 
 use crate::programs::Item;
 use deneva_base::{Copied, Items, NoMemory};
@@ -59,13 +56,19 @@ fn found_by_scan(items: &[Item], number: u32) -> Option<&Item>
     items.iter().find(|item| item.number == number)
 }
 
+fn has_item(items: &[Item], number: u32) -> bool
+    ensures { result ≡ is_item items.now number }
+{
+    items.iter().any(|item| item.number == number)
+}
+
 /// Whether no two items have one number, found by comparing each with each.
 fn are_apart(items: &[Item]) -> bool
     ensures { result ≡ have_own_numbers items.now }
 {
     let mut rest = items;
     while let [first, more @ ..] = rest {
-        if more.iter().any(|item| item.number == first.number) {
+        if has_item(more, first.number) {
             return false;
         }
         rest = more;
@@ -147,18 +150,4 @@ impl Copied for ItemList {
             rising: self.rising,
         })
     }
-}
-
-impl PartialEq for ItemList {
-    ghost eq = { pointwise Item.eq };
-
-    ghost laws = { Prim.search (comparing, rules) };
-
-    fn eq(&self, other: &ItemList) -> bool {
-        self.items == other.items
-    }
-}
-
-impl Eq for ItemList {
-    ghost laws = { Prim.search (comparing, rules) };
 }
