@@ -1,18 +1,15 @@
 -- Items whose numbers rise: what a look-up by halves finds among them, and that they have numbers of their own.
-use Rattle.std.proofs.Common.{◌≡◌, ℕ, zero, suc, ◌+◌, ◌-◌, ◌<◌, ◌≤◌, ◌==◌, List, [], ◌∷◌, ◌++◌, Bool, true, false, not, ◌&&◌, ◌||◌, length, get_or, take, drop, Ok, Err, Result, Option, Some, None, refl, sym, ap, subst, ◌∙◌, inl, inr, ⊎_elim, arith}
+use Rattle.std.proofs.Common.{◌≡◌, ℕ, zero, suc, ◌+◌, ◌-◌, ◌<◌, ◌==◌, List, [], ◌∷◌, ◌++◌, Bool, true, false, not, ◌&&◌, ◌||◌, length, get_or, Ok, Err, Some, None, refl, sym, ap, subst, ◌∙◌, inl, inr, arith}
 use Rattle.std.specs.Prelude.{nat_lt, slice_get}
-use Rattle.std.specs.List.{find, list_any}
-use Rattle.std.specs.List.Sorted.{IsSearchInRange, IsBinarySearchResult, IsSortedBy}
+use Rattle.std.specs.List.Sorted.{IsBinarySearchResult, IsSortedBy}
 use Rattle.std.specs.Ordering.{nat_cmp, is_lt, is_eq}
-use Rattle.std.specs.declared.cmp.Ordering.TheVariants.{Less, Equal, Greater}
-use Rattle.std.proofs.lemmas.Bool.{and_parts, and_from, cases_lt, ltb-true, or_from, false_from_ne_true, false≢true}
+use Rattle.std.proofs.lemmas.Bool.{and_parts, and_from, cases_lt, ltb-true, false≢true}
 use Rattle.std.proofs.lemmas.Bool.Decides.{nat_tests}
 use Rattle.std.proofs.lemmas.Cmp.{nat_cmp_total}
-use Rattle.std.proofs.lemmas.List.{take_all}
 use Rattle.std.proofs.lemmas.List.Folds.{list_any_none}
 use Rattle.std.proofs.lemmas.List.Sorted.{searchable_from_sorted}
 use Rattle.std.proofs.lemmas.Option.{same_Some}
-use Rattle.tpcc_rules.specs.Items.{have_own_numbers, is_item, item_numbered, numbers_rise, rise_after}
+use Rattle.tpcc_rules.specs.Items.{have_own_numbers, has_item, item_numbered, numbers_rise, rise_after}
 use Rattle.tpcc_rules.specs.declared.programs.Item.{Item}
 
 numbers_eq : (x y : ℕ) → is_eq (nat_cmp x y) ≡ (x == y)
@@ -88,9 +85,9 @@ or_none : (a b : Bool) → (a || b) ≡ false → (a ≡ false) × (b ≡ false)
 or_none true b h = absurd (false≢true (sym h))
 or_none false b h = (refl, h)
 
-find_none : (n : ℕ) (items : List Item) → is_item items n ≡ false → item_numbered items n ≡ None
+find_none : (n : ℕ) (items : List Item) → has_item items n ≡ false → item_numbered items n ≡ None
 find_none n [] h = refl
-find_none n (i ∷ items) h = rw (or_none (i.number == n) (is_item items n) h).0 (find_none n items (or_none (i.number == n) (is_item items n) h).1)
+find_none n (i ∷ items) h = rw (or_none (i.number == n) (has_item items n) h).0 (find_none n items (or_none (i.number == n) (has_item items n) h).1)
 
 by_cmp : (x y : ℕ) → is_eq (nat_cmp x y) ≡ true → x ≡ y
 by_cmp x y e = grind (arith, nat_tests)
@@ -108,7 +105,7 @@ not_found_by_halves items n at h parted =
 
 -- items whose numbers rise have numbers of their own
 
-none_above : (n : ℕ) (items : List Item) → rise_after n items ≡ true → is_item items n ≡ false
+none_above : (n : ℕ) (items : List Item) → rise_after n items ≡ true → has_item items n ≡ false
 none_above n items h = list_any_none (λ i. i.number == n) items (λ k d within. not_eq_back (get_or items k d).number n (below n items k d h within))
   where
     not_eq_back : (x y : ℕ) → y < x → (x == y) ≡ false
@@ -117,19 +114,3 @@ none_above n items h = list_any_none (λ i. i.number == n) items (λ k d within.
 pub own_from_rising : (items : List Item) → numbers_rise items ≡ true → have_own_numbers items ≡ true
 own_from_rising [] h = refl
 own_from_rising (i ∷ items) h = and_from _ _ (ap not (none_above i.number items h)) (own_from_rising items (tail_rises i items h))
-
--- the items after the first
-
--- no later item has the first one's number, so the later ones settle whether all have numbers of their own
-pub apart_after : (items : List Item) (d : Item) → 1 ≤ length items → is_item (take (length items - 1) (drop 1 items)) (get_or items 0 d).number ≡ false
-    → have_own_numbers (take (length items - 1) (drop 1 items)) ≡ have_own_numbers items
-apart_after [] d some h = absurd (omega arith)
-apart_after (i ∷ items) d some h =
-    let all : take (length (i ∷ items) - 1) (drop 1 (i ∷ items)) ≡ items = take_all (length (i ∷ items) - 1) items (omega arith) in
-    rw all (sym (ap (λ b. not b && have_own_numbers items) (rw all at h)))
-
-pub apart_not : (items : List Item) (d : Item) → 1 ≤ length items → is_item (take (length items - 1) (drop 1 items)) (get_or items 0 d).number ≡ true → false ≡ have_own_numbers items
-apart_not [] d some h = absurd (omega arith)
-apart_not (i ∷ items) d some h =
-    let all : take (length (i ∷ items) - 1) (drop 1 (i ∷ items)) ≡ items = take_all (length (i ∷ items) - 1) items (omega arith) in
-    sym (ap (λ b. not b && have_own_numbers items) (rw all at h))

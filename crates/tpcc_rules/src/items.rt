@@ -1,6 +1,6 @@
 //! The items of a load.
 ghost use Rattle.std.specs.Prelude.{◌≡◌, ◌++◌, ◌∷◌, [], ◌<◌, ◌^◌, ◌&&◌, true, length, option_map, IfOk, OnOk, OnErr};
-ghost use Rattle.tpcc_rules.specs.Items.{have_own_numbers, is_item, item_numbered, numbers_rise};
+ghost use Rattle.tpcc_rules.specs.Items.{have_own_numbers, has_item, item_numbered, numbers_rise};
 
 use crate::programs::Item;
 use deneva_base::{Copied, Items, NoMemory};
@@ -57,7 +57,7 @@ fn found_by_scan(items: &[Item], number: u32) -> Option<&Item>
 }
 
 fn has_item(items: &[Item], number: u32) -> bool
-    ensures { result ≡ is_item items.now number }
+    ensures { result ≡ has_item items.now number }
 {
     items.iter().any(|item| item.number == number)
 }
@@ -67,7 +67,7 @@ fn are_apart(items: &[Item]) -> bool
     ensures { result ≡ have_own_numbers items.now }
 {
     let mut rest = items;
-    while let [first, more @ ..] = rest {
+    while let Some((first, more)) = rest.split_first() {
         if has_item(more, first.number) {
             return false;
         }

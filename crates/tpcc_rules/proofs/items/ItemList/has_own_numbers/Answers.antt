@@ -1,5 +1,4 @@
 use Rattle.std.proofs.Common.{◌∙◌, sym}
-use Rattle.tpcc_rules.specs.Items.{have_own_numbers, numbers_rise}
 use Rattle.tpcc_rules.proofs.ItemNumbers.{own_from_rising}
 use Rattle.tpcc_rules.proofs.items.ItemList.has_own_numbers.Goals as goal
 

@@ -1,4 +1,4 @@
-use Rattle.std.proofs.Common.{◌≡◌, ◌∙◌, ◌∷◌, ◌++◌, [], ap, sym, refl, true, false, ◌&&◌, rules, Bool}
+use Rattle.std.proofs.Common.{◌≡◌, ◌∙◌, ◌∷◌, ◌++◌, [], sym, refl, true, rules}
 use Rattle.tpcc_rules.specs.Items.{numbers_rise}
 use Rattle.tpcc_rules.proofs.items.ItemList.push.Goals as goal
 use Rattle.tpcc_rules.proofs.items.ItemList.push.Goals.{then-self, else-self}
