@@ -267,16 +267,22 @@ pub fn loaded_columns_of(table: u8) -> &'static [Column]
     }
 }
 
+fn is_table(table: u8) -> bool
+    ensures { result ≡ tables.is_table table }
+{
+    1 <= table && table <= 8
+}
+
 /// Whether a row has the cells of its key's table, with values in their ranges.
 pub fn is_table_row(key: Key, row: &[Cell]) -> bool
     ensures { result ≡ tables.is_table_row key row.now }
 {
-    fits_all(columns_of(key.table), row)
+    is_table(key.table) && fits_all(columns_of(key.table), row)
 }
 
 /// Whether a row may stand in a load.
 pub fn is_loaded_row(key: Key, row: &[Cell]) -> bool
     ensures { result ≡ tables.is_loaded_row key row.now }
 {
-    fits_all(loaded_columns_of(key.table), row)
+    is_table(key.table) && fits_all(loaded_columns_of(key.table), row)
 }
