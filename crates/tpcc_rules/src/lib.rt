@@ -10,6 +10,8 @@ mod payment_tests;
 mod payments;
 mod programs;
 mod read_rows;
+#[cfg(test)]
+mod table_tests;
 mod tables;
 
 pub use cells::{number_at, raised_copy, raised_row, text_at};

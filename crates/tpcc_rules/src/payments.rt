@@ -2,7 +2,7 @@
 ghost use Rattle.std.specs.Prelude.{◌≡◌, ◌++◌, IfOk, MatchOption, OnOk, true, false, codes, decimal, map, take, pos};
 ghost use Rattle.std.specs.Fmt.{signed_decimal};
 ghost use Rattle.tpcc_rules.specs.Columns.{fits_all};
-ghost use Rattle.tpcc_rules.specs.Payments.{history, note, noted, paid, payment};
+ghost use Rattle.tpcc_rules.specs.Payments.{history, leaving, note, noted, paid, payment};
 ghost use Rattle.tpcc_rules.specs.ReadRows.{as_read};
 ghost use Rattle.tpcc_rules.specs.Effects as effects;
 ghost use Rattle.tpcc_rules.specs.Tables as tables;
@@ -146,6 +146,38 @@ fn keyed(alloc: Global, key: Key, cells: CellList) -> Result<Keyed, NoMemory>
     Ok(Keyed { key, row })
 }
 
+/// The effect of a payment that leaves these rows and this history.
+fn paid_effect(
+    alloc: Global,
+    id: TxnId,
+    p: &Payment,
+    warehouse: CellList,
+    district: CellList,
+    customer: CellList,
+    history: Row,
+) -> Result<Effect, NoMemory>
+    ensures { IfOk result (λ e. e ≡ leaving id p.now warehouse district customer history) }
+{
+    let answer = number_at(customer.as_slice(), CUSTOMER_BALANCE);
+    let writes = vec![in alloc;
+        keyed(alloc, warehouse_key(p.w), warehouse)?,
+        keyed(alloc, district_key(p.w, p.d), district)?,
+        keyed(alloc, customer_key(p.cw, p.cd, p.c), customer)?,
+    ]?;
+    let appends = vec![in alloc;
+        Keyed {
+            key: history_key(p.w, id.0),
+            row: history
+        },
+    ]?;
+    Ok(Effect {
+        verdict: Verdict::Commit,
+        writes: RowList::of(writes),
+        appends: RowList::of(appends),
+        answer,
+    })
+}
+
 /// What a payment makes of the rows that it reads, whatever they are.
 pub fn payment_effect(
     alloc: Global,
@@ -170,29 +202,15 @@ pub fn payment_effect(
     let Some(new_customer) = customer_copy(alloc, p, cells_of(rows, at_customer))? else {
         return Ok(rolled_back(alloc, Reason::Range { key: at_customer }));
     };
-    let answer = number_at(new_customer.as_slice(), CUSTOMER_BALANCE);
-    let history = history_row(
+    let name = text_at(warehouse, WAREHOUSE_NAME);
+    let history = history_row(alloc, id, p, name, text_at(district, DISTRICT_NAME))?;
+    paid_effect(
         alloc,
         id,
         p,
-        text_at(warehouse, WAREHOUSE_NAME),
-        text_at(district, DISTRICT_NAME),
-    )?;
-    let writes = vec![in alloc;
-        keyed(alloc, at_warehouse, new_warehouse)?,
-        keyed(alloc, at_district, new_district)?,
-        keyed(alloc, at_customer, new_customer)?,
-    ]?;
-    let appends = vec![in alloc;
-        Keyed {
-            key: history_key(p.w, id.0),
-            row: history
-        },
-    ]?;
-    Ok(Effect {
-        verdict: Verdict::Commit,
-        writes: RowList::of(writes),
-        appends: RowList::of(appends),
-        answer,
-    })
+        new_warehouse,
+        new_district,
+        new_customer,
+        history,
+    )
 }
