@@ -1,6 +1,7 @@
 pub mod Distinct
 pub mod DistinctLists
 pub mod FitPrograms
+pub mod Found
 pub mod Ids
 pub mod LoadedRows
 pub mod Loads
@@ -11,5 +12,5 @@ pub mod ReadRows
 pub mod Settled
 pub mod TpccLaws
 pub mod ValidPrograms
-mod Within
+pub mod Within
 pub mod WorkloadLaws

@@ -66,6 +66,7 @@ fn ycsb_writes(
 }
 
 /// Those of the rows that lie at the partition, and without one all of them.
+#[tactic(auto, using(crate::proofs::Within::within_by_key))]
 fn kept_rows(rows: RowList, made: Option<Partition>) -> RowList
     requires parts { IfSome made (λ p. 1 ≤ p.parts) }
     ensures { result ≡ rows_within made rows }

@@ -251,6 +251,7 @@ impl<'a> LoadView<'a> {
     }
 
     /// Whether the line's item is loaded.
+    #[tactic(auto, using(crate::proofs::Found::some_found))]
     fn has_item(&self, line: &Line) -> bool
         ensures { result ≡ is_loaded self.now.load.now.items line.now }
     {
