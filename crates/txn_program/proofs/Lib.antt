@@ -12,5 +12,5 @@ pub mod ReadRows
 pub mod Settled
 pub mod TpccLaws
 pub mod ValidPrograms
-pub mod Within
+mod Within
 pub mod WorkloadLaws

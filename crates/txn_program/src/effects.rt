@@ -10,7 +10,7 @@ ghost use Rattle.txn_program.specs.Transactions.{effect, effect_within, rows_wit
 use crate::accesses::ycsb_key_of;
 use crate::partitions::{Partition, is_within};
 use crate::programs::{Load, Program, YcsbAct, YcsbPut, YcsbStep};
-use deneva_base::{ByteList, Cell, CellList, Key, Keyed, NoMemory, Row, RowList, TxnId};
+use deneva_base::{ByteList, Cell, CellList, Key, Keyed, NoMemory, Row, RowList, TxnId, partition_of};
 use std::alloc::Global;
 use tpcc_rules::{
     Effect, ReadRow, Verdict, cells_of, new_order_effect, payment_effect, rows_lying,
@@ -66,13 +66,15 @@ fn ycsb_writes(
 }
 
 /// Those of the rows that lie at the partition, and without one all of them.
-#[tactic(auto, using(crate::proofs::Within::within_by_key))]
 fn kept_rows(rows: RowList, made: Option<Partition>) -> RowList
     requires parts { IfSome made (λ p. 1 ≤ p.parts) }
     ensures { result ≡ rows_within made rows }
 {
+    let Some(partition) = made else {
+        return rows;
+    };
     let mut rows = rows.into_vec();
-    rows.retain(|keyed| is_within(made, keyed.key));
+    rows.retain(|keyed| partition_of(keyed.key, partition.parts) == partition.part);
     RowList::of(rows)
 }
 
