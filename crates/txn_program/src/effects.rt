@@ -11,7 +11,9 @@ ghost use Rattle.txn_program.specs.Transactions.{effect, effect_within, rows_wit
 use crate::accesses::ycsb_key_of;
 use crate::partitions::{Partition, is_within};
 use crate::programs::{Load, Program, YcsbAct, YcsbPut, YcsbStep};
-use deneva_base::{ByteList, Cell, CellList, Key, Keyed, NoMemory, Row, RowList, TxnId, partition_of};
+use deneva_base::{
+    ByteList, Cell, CellList, Key, Keyed, NoMemory, Row, RowList, TxnId, partition_of,
+};
 use std::alloc::Global;
 use tpcc_rules::{
     Effect, ReadRow, Verdict, cells_of, new_order_effect, payment_effect, rows_lying,
