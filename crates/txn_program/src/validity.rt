@@ -203,6 +203,7 @@ impl<'a> LoadView<'a> {
             && (rows.len() <= 1_000_000 && fit_rows(rows) && self.are_rows_apart())
             && items.len() <= 100_000
             && fit_items(items.as_slice())
+            && items.has_own_numbers()
     }
 
     /// Whether the load is valid.
