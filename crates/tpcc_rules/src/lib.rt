@@ -21,7 +21,8 @@ pub use programs::{Item, Line, NewOrder, Payment};
 pub use read_rows::{ReadRow, cells_of, row_among, rows_lying};
 pub use stand_in::{new_order_effect, stock_keys};
 pub use tables::{
-    columns_of, customer_key, district_key, history_key, is_loaded_row, is_table_row, line_key, loaded_columns_of, new_order_key, order_key, stock_key, warehouse_key,
+    columns_of, customer_key, district_key, history_key, is_loaded_row, is_table_row, line_key,
+    loaded_columns_of, new_order_key, order_key, stock_key, warehouse_key,
 };
 
 /// The lines of a new order.

@@ -9,49 +9,84 @@ use deneva_base::{Cell, Key};
 pub fn warehouse_key(w: u32) -> Key
     ensures { result ≡ tables.warehouse_key w }
 {
-    Key { table: 1, a: w, b: 0, c: 0 }
+    Key {
+        table: 1,
+        a: w,
+        b: 0,
+        c: 0,
+    }
 }
 
 /// The key of district `d` of warehouse `w`.
 pub fn district_key(w: u32, d: u32) -> Key
     ensures { result ≡ tables.district_key w d }
 {
-    Key { table: 2, a: w, b: d, c: 0 }
+    Key {
+        table: 2,
+        a: w,
+        b: d,
+        c: 0,
+    }
 }
 
 /// The key of customer `c` of that district.
 pub fn customer_key(w: u32, d: u32, c: u32) -> Key
     ensures { result ≡ tables.customer_key w d c }
 {
-    Key { table: 3, a: w, b: d, c }
+    Key {
+        table: 3,
+        a: w,
+        b: d,
+        c,
+    }
 }
 
 /// The key of warehouse `w`'s stock of item `i`.
 pub fn stock_key(w: u32, i: u32) -> Key
     ensures { result ≡ tables.stock_key w i }
 {
-    Key { table: 4, a: w, b: i, c: 0 }
+    Key {
+        table: 4,
+        a: w,
+        b: i,
+        c: 0,
+    }
 }
 
 /// The key of the history row of the payment with transaction number `id` at warehouse `w`.
 pub fn history_key(w: u32, id: u32) -> Key
     ensures { result ≡ tables.history_key w id }
 {
-    Key { table: 5, a: w, b: id, c: 0 }
+    Key {
+        table: 5,
+        a: w,
+        b: id,
+        c: 0,
+    }
 }
 
 /// The key of order `o` of a district.
 pub fn order_key(w: u32, d: u32, o: u32) -> Key
     ensures { result ≡ tables.order_key w d o }
 {
-    Key { table: 6, a: w, b: d, c: o }
+    Key {
+        table: 6,
+        a: w,
+        b: d,
+        c: o,
+    }
 }
 
 /// The key of the same in NEW-ORDER, which has the orders that are not delivered.
 pub fn new_order_key(w: u32, d: u32, o: u32) -> Key
     ensures { result ≡ tables.new_order_key w d o }
 {
-    Key { table: 7, a: w, b: d, c: o }
+    Key {
+        table: 7,
+        a: w,
+        b: d,
+        c: o,
+    }
 }
 
 /// The key of line `n`, counted from 1, of an order.
@@ -59,11 +94,23 @@ pub fn line_key(w: u32, d: u32, o: u32, n: u32) -> Key
     requires { o * 16 + n < 2 ^ 32 }
     ensures { result ≡ tables.line_key w d o n }
 {
-    Key { table: 8, a: w, b: d, c: o * 16 + n }
+    Key {
+        table: 8,
+        a: w,
+        b: d,
+        c: o * 16 + n,
+    }
 }
 
-const RATE: Column = Column::Between { low: 0, high: 10_000 };
-const NUMBER: Column = Column::Between { low: i64::MIN, high: i64::MAX };
+const RATE: Column = Column::Between {
+    low: 0,
+    high: 10_000,
+};
+
+const NUMBER: Column = Column::Between {
+    low: i64::MIN,
+    high: i64::MAX,
+};
 
 const WAREHOUSE: [Column; 3] = [Column::UpTo { most: 10 }, RATE, NUMBER];
 
@@ -71,14 +118,20 @@ const DISTRICT: [Column; 4] = [
     Column::UpTo { most: 10 },
     RATE,
     NUMBER,
-    Column::Between { low: 1, high: 200_000_000 },
+    Column::Between {
+        low: 1,
+        high: 200_000_000,
+    },
 ];
 
 const LOADED_DISTRICT: [Column; 4] = [
     Column::UpTo { most: 10 },
     RATE,
     NUMBER,
-    Column::Between { low: 1, high: 10_000_000 },
+    Column::Between {
+        low: 1,
+        high: 10_000_000,
+    },
 ];
 
 const CUSTOMER: [Column; 8] = [
@@ -93,7 +146,10 @@ const CUSTOMER: [Column; 8] = [
 ];
 
 const STOCK: [Column; 5] = [
-    Column::Between { low: 0, high: 9_999 },
+    Column::Between {
+        low: 0,
+        high: 9_999,
+    },
     NUMBER,
     NUMBER,
     NUMBER,
@@ -146,7 +202,11 @@ pub fn columns_of(table: u8) -> &'static [Column]
 pub fn loaded_columns_of(table: u8) -> &'static [Column]
     ensures { result.now ≡ tables.loaded_columns table }
 {
-    if table == 2 { &LOADED_DISTRICT } else { columns_of(table) }
+    if table == 2 {
+        &LOADED_DISTRICT
+    } else {
+        columns_of(table)
+    }
 }
 
 /// Whether a row has the cells of its key's table, with values in their ranges.
