@@ -209,7 +209,7 @@ read_on head n (r ∷ rs) work = read_after n work rs (read_on head (n + 1) rs) 
 
 -- no row and no transaction yet
 abbrev pub empty : Head → Workload
-empty head = record { load = record { kind = kinds.Ycsb; fields = head.fields; rows = [] }; programs = [] }
+empty head = record { load = record { kind = kinds.Ycsb; fields = head.fields; rows = []; items = [] }; programs = [] }
 
 abbrev pub read_from_head : Result Head Flaw → List Record → Result Workload InputFault
 read_from_head (Ok head) rs = read_on head 2 rs (empty head)

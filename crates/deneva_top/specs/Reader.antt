@@ -20,7 +20,7 @@ use Rattle.deneva_top.specs.Grammar.{with_row, with_program, fault_of}
 
 -- the workload so far
 abbrev pub work_of : Reading → Workload
-work_of reading = record { load = record { kind = Ycsb; fields = reading.head.fields; rows = rows_in reading.rows.entries }; programs = reading.programs }
+work_of reading = record { load = record { kind = Ycsb; fields = reading.head.fields; rows = rows_in reading.rows.entries; items = [] }; programs = reading.programs }
 
 -- what a record does to the workload so far: it adds what the record says, or the file ends
 abbrev pub Advances : Workload → Workload → Result Said Flaw → Progress → Type 0

@@ -1,6 +1,7 @@
 //! What a transaction makes of the rows that it reads.
-ghost use Rattle.std.specs.Prelude.{◌≡◌, ◌≤◌, IfOk, IfSome, List, map, slice_set};
-ghost use Rattle.std.specs.List.{filter_map};
+ghost use Rattle.std.specs.Prelude.{◌≡◌, ◌≤◌, ◌==◌, IfOk, IfSome, List, map, slice_set};
+ghost use Rattle.std.specs.List.{filter, filter_map};
+ghost use Rattle.deneva_base.specs.Partitions as base;
 ghost use Rattle.deneva_base.specs.Rows.{row_at};
 ghost use Rattle.deneva_base.specs.declared.rows.Cell.TheVariants.{Text};
 ghost use Rattle.deneva_base.specs.declared.rows.Keyed as keyed;
@@ -10,9 +11,13 @@ ghost use Rattle.txn_program.specs.Transactions.{effect, effect_within, rows_wit
 use crate::accesses::ycsb_key_of;
 use crate::partitions::{Partition, is_within};
 use crate::programs::{Load, Program, YcsbAct, YcsbPut, YcsbStep};
-use deneva_base::{ByteList, Cell, CellList, Key, Keyed, NoMemory, Row, RowList, TxnId};
+use deneva_base::{
+    ByteList, Cell, CellList, Key, Keyed, NoMemory, Row, RowList, TxnId, partition_of,
+};
 use std::alloc::Global;
-use tpcc_rules::{Effect, ReadRow, Verdict, cells_of, rows_lying};
+use tpcc_rules::{
+    Effect, ReadRow, Verdict, cells_of, new_order_effect, payment_effect, rows_lying,
+};
 
 /// A copy of the cells, one of which is replaced by a text.
 fn with_text(alloc: Global, cells: &[Cell], field: u8, text: ByteList) -> Result<CellList, NoMemory>
@@ -63,8 +68,48 @@ fn ycsb_writes(
     Ok(writes)
 }
 
+/// Those of the rows that lie at the partition.
+fn lying_at(partition: Partition, mut rows: Vec<Keyed>) -> Vec<Keyed>
+    requires { 1 ≤ partition.parts }
+    ensures { result.items ≡ filter (λ r. base.partition_of r.key partition.parts == partition.part) rows.items }
+{
+    rows.retain(|keyed| partition_of(keyed.key, partition.parts) == partition.part);
+    rows
+}
+
+/// The same, and without a partition all of the rows.
+fn kept_rows(rows: RowList, made: Option<Partition>) -> RowList
+    requires parts { IfSome made (λ p. 1 ≤ p.parts) }
+    ensures { result ≡ rows_within made rows }
+{
+    match made {
+        Some(partition) => RowList::of(lying_at(partition, rows.into_vec())),
+        None => rows,
+    }
+}
+
+/// What of an effect lies at the partition, and without one all of it.
+fn kept_within(effect: Effect, made: Option<Partition>) -> Effect
+    requires parts { IfSome made (λ p. 1 ≤ p.parts) }
+    ensures { result ≡ effect_within made effect }
+{
+    let Effect {
+        verdict,
+        writes,
+        appends,
+        answer,
+    } = effect;
+    Effect {
+        verdict,
+        writes: kept_rows(writes, made),
+        appends: kept_rows(appends, made),
+        answer,
+    }
+}
+
 /// What a transaction makes of the rows that it reads, or of that what lies at one partition: rows that lie elsewhere are
-/// not made. A YCSB transaction always commits, appends nothing and answers 0.
+/// not made. A YCSB transaction always commits, appends nothing and answers 0; TPC-C's effects are made whole, and then
+/// cut down.
 pub fn effect_within(
     alloc: Global,
     load: &Load,
@@ -83,6 +128,14 @@ pub fn effect_within(
             appends: RowList::new(alloc),
             answer: 0,
         }),
+        Program::Payment(payment) => {
+            let whole = payment_effect(alloc, id, payment, rows)?;
+            Ok(kept_within(whole, made))
+        }
+        Program::NewOrder(order) => {
+            let whole = new_order_effect(alloc, &load.items, id, order, rows)?;
+            Ok(kept_within(whole, made))
+        }
     }
 }
 

@@ -16,7 +16,7 @@ use crate::workload_text::texts::texts_from;
 use deneva_base::{Items, Key, Keyed, NoMemory, Row, RowList};
 use std::alloc::Global;
 use std::collections::{BTreeMap, BTreeSet};
-use txn_program::{Load, Program, ProgramList, StepList, WorkKind, Workload, ycsb_key_of};
+use txn_program::{ItemList, Load, Program, ProgramList, StepList, WorkKind, Workload, ycsb_key_of};
 
 const ROW_LIMIT: u32 = 1_000_000;
 
@@ -230,6 +230,7 @@ impl Reading {
             kind: WorkKind::Ycsb,
             fields: head.fields,
             rows,
+            items: ItemList::new(alloc),
         };
         Ok(Workload { load, programs })
     }
