@@ -67,7 +67,7 @@ pub fn lowered_copy(
     Ok(Some(CellList::of(copy)))
 }
 
-fn is_between(cell: &Cell, low: i64, high: i64) -> bool
+pub fn is_between(cell: &Cell, low: i64, high: i64) -> bool
     ensures { result ≡ fits (Between low high) cell.now }
 {
     match cell {
@@ -76,7 +76,7 @@ fn is_between(cell: &Cell, low: i64, high: i64) -> bool
     }
 }
 
-fn is_up_to(cell: &Cell, most: usize) -> bool
+pub fn is_up_to(cell: &Cell, most: usize) -> bool
     ensures { result ≡ fits (UpTo most) cell.now }
 {
     match cell {

@@ -7,6 +7,7 @@ mod items;
 mod payments;
 mod programs;
 mod read_rows;
+mod stocks;
 
 pub use cells::{
     is_district_row, is_warehouse_row, number_at, raised_copy, text_at, warehouse_copy,
@@ -17,6 +18,7 @@ pub use items::ItemList;
 pub use payments::payment_effect;
 pub use programs::{Item, Line, NewOrder, Payment};
 pub use read_rows::{ReadRow, cells_of, row_among, rows_lying};
+pub use stocks::{stock_keys, stock_rows};
 
 /// The lines of a new order.
 pub type LineList = Items<Line>;
