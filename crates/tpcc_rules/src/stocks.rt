@@ -2,6 +2,7 @@
 ghost use Rattle.std.specs.Prelude.{◌≡◌, ◌++◌, ◌<◌, ◌^◌, All, IfOk, MatchOption, MatchResult, Some, None, false, map, option_map, pos, slice_set, true};
 ghost use Rattle.std.specs.List.{find, list_any};
 ghost use Rattle.deneva_base.specs.Keys.{key_eq};
+ghost use Rattle.deneva_base.specs.declared.rows.Cell.TheVariants.{Num};
 ghost use Rattle.tpcc_rules.specs.Columns as columns;
 ghost use Rattle.tpcc_rules.specs.Columns.{fits_all};
 ghost use Rattle.tpcc_rules.specs.Effects.{raised, whole};
