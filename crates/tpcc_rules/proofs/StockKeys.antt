@@ -1,5 +1,5 @@
 -- The keys of stock rows, each once.
-use Rattle.std.proofs.Common.{◌≡◌, ◌∙◌, ℕ, suc, ◌+◌, ◌<◌, List, [], ◌∷◌, ◌++◌, map, Bool, true, false, not, cond, ◌&&◌, ◌||◌, length, get_or, take, All, Option, Some, None, refl, sym, ap, subst, add-one, arith}
+use Rattle.std.proofs.Common.{◌≡◌, ◌∙◌, ℕ, suc, ◌+◌, ◌<◌, List, [], ◌∷◌, ◌++◌, map, Bool, true, false, not, cond, ◌&&◌, ◌||◌, length, get_or, take, All, Option, Some, None, refl, sym, ap, subst, arith}
 use Rattle.std.specs.Prelude.{option_map, is_some, ◌==◌}
 use Rattle.std.specs.List.{filter, list_any}
 use Rattle.std.proofs.Math.Seq.{take-suc}
@@ -91,7 +91,7 @@ module _ (items : List Item) (lines : List Line) (i : ℕ) (d : Line) (within : 
   before = map stock_of (filter (is_loaded items) (take i lines))
 
   one_more : stocks items (take (i + 1) lines) ≡ once (map stock_of (filter (is_loaded items) (take i lines ++ line ∷ [])))
-  one_more = ap (stocks items) (ap (λ n. take n lines) (add-one {x = i}) ∙ take-suc lines i d within)
+  one_more = ap (stocks items) (let next : i + 1 ≡ suc i = omega arith in ap (λ n. take n lines) next ∙ take-suc lines i d within)
 
   map_last : (xs : List Line) (l : Line) → map stock_of (xs ++ l ∷ []) ≡ map stock_of xs ++ stock_of l ∷ []
   map_last [] l = refl

@@ -1,5 +1,5 @@
 -- Stock rows after lines: a number that leaves 64 bits stays outside, since lines only raise it.
-use Rattle.std.proofs.Common.{◌≡◌, ◌≢◌, ◌∙◌, ◌≤◌, ◌^◌, ◌-◌, ℕ, zero, suc, ◌+◌, ◌<◌, List, [], ◌∷◌, set, Bool, true, false, not, cond, ◌&&◌, ◌||◌, length, get_or, drop, Option, Some, None, refl, sym, ap, subst, add-one, arith, ℤ, pos, negsuc, ◌+ℤ◌}
+use Rattle.std.proofs.Common.{◌≡◌, ◌≢◌, ◌∙◌, ◌≤◌, ◌^◌, ◌-◌, ℕ, zero, suc, ◌+◌, ◌<◌, List, [], ◌∷◌, set, Bool, true, false, not, cond, ◌&&◌, ◌||◌, length, get_or, drop, Option, Some, None, refl, sym, ap, subst, arith, ℤ, pos, negsuc, ◌+ℤ◌}
 use Rattle.std.specs.Prelude.{nat_le, slice_get, if◌then◌else◌}
 use Rattle.std.specs.List.{filter, fold}
 use Rattle.std.proofs.Math.Seq.{drop-cons}
@@ -89,7 +89,7 @@ module _ (w : ℕ) (lines : List Line) (key : Key) (row : Row) (i : ℕ) (d : Li
   line = get_or lines i d
 
   from_here : after_lines w (drop i lines) key row ≡ after_lines w (line ∷ drop (i + 1) lines) key row
-  from_here = ap (λ ls. after_lines w ls key row) (drop-cons lines i d within ∙ ap (λ n. line ∷ drop n lines) (sym (add-one {x = i})))
+  from_here = ap (λ ls. after_lines w ls key row) (let next : suc i ≡ i + 1 = omega arith in drop-cons lines i d within ∙ ap (λ n. line ∷ drop n lines) next)
 
   pub after_own : key_eq (stock_of line) key ≡ true → after_lines w (drop i lines) key row ≡ after_lines w (drop (i + 1) lines) key (supplied w row line)
   after_own e = from_here ∙ ap (λ b. fold (supplied w) row (cond b (line ∷ filter (λ l. key_eq (stock_of l) key) (drop (i + 1) lines)) (filter (λ l. key_eq (stock_of l) key) (drop (i + 1) lines)))) e

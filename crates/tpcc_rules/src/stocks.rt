@@ -105,6 +105,12 @@ fn supply(cells: &mut Vec<Cell>, w: u32, line: &Line) -> bool
         && (line.supplier == w || raise(cells, 3, 1))
 }
 
+fn takes_from(line: &Line, key: Key) -> bool
+    ensures { result ≡ key_eq (stock_of line.now) key }
+{
+    stock_key_of(line) == key
+}
+
 /// The cells of a stock row after the lines, and none where a number would leave 64 bits.
 fn supplied_cells(
     alloc: Global,
@@ -117,7 +123,7 @@ fn supplied_cells(
 {
     let mut cells = CellList::copy_of(alloc, cells)?.into_vec();
     for line in order.lines.as_slice() {
-        if stock_key_of(line) == key && !supply(&mut cells, order.w, line) {
+        if takes_from(line, key) && !supply(&mut cells, order.w, line) {
             return Ok(None);
         }
     }
