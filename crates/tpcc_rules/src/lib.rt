@@ -7,6 +7,8 @@ mod items;
 mod payments;
 mod programs;
 mod read_rows;
+#[cfg(test)]
+mod tests;
 
 pub use cells::{
     is_district_row, is_warehouse_row, number_at, raised_copy, text_at, warehouse_copy,
