@@ -1,4 +1,4 @@
-//! A payment of a customer with good credit, one with bad credit, and one that is rolled back.
+//! The rows of tables, and a payment of a customer with good credit, one with bad credit, and one that is rolled back.
 
 use super::*;
 use deneva_base::{ByteList, Cell, CellList, Key, Keyed, Row, RowList, TxnId};
@@ -30,19 +30,14 @@ fn keyed_of(alloc: Global, key: Key, parts: &[Part<'_>]) -> Result<Keyed, Fail> 
     })
 }
 
-/// The key of a district's row, or of a customer's or an order's in it.
-fn key_of(table: u8, a: u32, b: u32, c: u32) -> Key {
-    Key { table, a, b, c }
-}
-
 /// The rows that payments read: warehouse 1, its district 2 and customer 7 of district 3 of warehouse 2.
 fn rows_read(alloc: Global, ytd: i64, customer: &[Part<'_>]) -> Result<RowList, Fail> {
     let warehouse = [Part::T(b"Main"), Part::N(500), Part::N(ytd)];
     let district = [Part::T(b"North"), Part::N(100), Part::N(40), Part::N(3)];
     let mut rows = RowList::new(alloc);
-    rows.push(keyed_of(alloc, key_of(1, 1, 0, 0), &warehouse)?)?;
-    rows.push(keyed_of(alloc, key_of(2, 1, 2, 0), &district)?)?;
-    rows.push(keyed_of(alloc, key_of(3, 2, 3, 7), customer)?)?;
+    rows.push(keyed_of(alloc, warehouse_key(1), &warehouse)?)?;
+    rows.push(keyed_of(alloc, district_key(1, 2), &district)?)?;
+    rows.push(keyed_of(alloc, customer_key(2, 3, 7), customer)?)?;
     Ok(rows)
 }
 
@@ -84,11 +79,11 @@ fn a_payment_replaces_three_rows_and_appends_one(rt: HostRuntime) -> Result<(), 
         return Err(Fail::new("rows"));
     };
     let expected = [Part::T(b"Main"), Part::N(500), Part::N(1_150)];
-    assert_eq!(rt; *warehouse, keyed_of(alloc, key_of(1, 1, 0, 0), &expected)?);
+    assert_eq!(rt; *warehouse, keyed_of(alloc, warehouse_key(1), &expected)?);
     let expected = [Part::T(b"North"), Part::N(100), Part::N(190), Part::N(3)];
-    assert_eq!(rt; *district, keyed_of(alloc, key_of(2, 1, 2, 0), &expected)?);
+    assert_eq!(rt; *district, keyed_of(alloc, district_key(1, 2), &expected)?);
     let expected = customer(b"GC", -50, 170, 5, b"old");
-    assert_eq!(rt; *paid, keyed_of(alloc, key_of(3, 2, 3, 7), &expected)?);
+    assert_eq!(rt; *paid, keyed_of(alloc, customer_key(2, 3, 7), &expected)?);
     let [history] = effect.appends.as_slice() else {
         return Err(Fail::new("rows"));
     };
@@ -102,7 +97,7 @@ fn a_payment_replaces_three_rows_and_appends_one(rt: HostRuntime) -> Result<(), 
         Part::N(150),
         Part::T(b"Main    North"),
     ];
-    assert_eq!(rt; *history, keyed_of(alloc, key_of(5, 1, 9, 0), &expected)?);
+    assert_eq!(rt; *history, keyed_of(alloc, history_key(1, 9), &expected)?);
     Ok(())
 }
 
@@ -115,7 +110,7 @@ fn a_payment_is_noted_where_credit_is_bad(rt: HostRuntime) -> Result<(), Fail> {
         return Err(Fail::new("rows"));
     };
     let expected = customer(b"BC", -50, 170, 5, b"7 3 2 2 1 150 old");
-    assert_eq!(rt; *paid, keyed_of(alloc, key_of(3, 2, 3, 7), &expected)?);
+    assert_eq!(rt; *paid, keyed_of(alloc, customer_key(2, 3, 7), &expected)?);
     Ok(())
 }
 
@@ -139,10 +134,29 @@ fn a_sum_past_its_range_rolls_back(rt: HostRuntime) -> Result<(), Fail> {
     let rows = rows_read(alloc, i64::MAX - 149, &customer(b"GC", 100, 20, 4, b"old"))?;
     let effect = effect_on(alloc, &rows)?;
     let reason = Reason::Range {
-        key: key_of(1, 1, 0, 0),
+        key: warehouse_key(1),
     };
     assert_eq!(rt; effect.verdict, Verdict::Rollback(reason));
     assert!(rt; effect.writes.is_empty() && effect.appends.is_empty());
     assert_eq!(rt; effect.answer, 0);
+    Ok(())
+}
+
+#[test]
+fn rows_have_the_columns_of_their_tables(rt: HostRuntime) -> Result<(), Fail> {
+    let alloc = rt.alloc();
+    let early = [Part::T(b"North"), Part::N(100), Part::N(40), Part::N(10_000_000)];
+    let early = row_of(alloc, &early)?;
+    assert!(rt; is_loaded_row(district_key(1, 2), early.as_slice()));
+    let late = [Part::T(b"North"), Part::N(100), Part::N(40), Part::N(10_000_001)];
+    let late = row_of(alloc, &late)?;
+    assert!(rt; !is_loaded_row(district_key(1, 2), late.as_slice()));
+    assert!(rt; is_table_row(district_key(1, 2), late.as_slice()));
+    assert!(rt; !is_table_row(warehouse_key(1), late.as_slice()));
+    let stock = [Part::N(9_999), Part::N(0), Part::N(0), Part::N(0), Part::T(b"")];
+    assert!(rt; is_table_row(stock_key(1, 5), row_of(alloc, &stock)?.as_slice()));
+    assert!(rt; is_table_row(new_order_key(1, 2, 3), &[]));
+    assert!(rt; !is_table_row(order_key(1, 2, 3), &[]));
+    assert_eq!(rt; line_key(1, 2, 3, 4), Key { table: 8, a: 1, b: 2, c: 52 });
     Ok(())
 }
