@@ -46,6 +46,32 @@ module _ (w : ℕ) (row : Row) (line : Line) where
       let more : is_great (number_at sold k) ≡ true = great_kept (raised 1 (pos line.quantity) taken) 2 k 1 (great_kept taken 1 k line.quantity first) in
       great_if (is_remote w line) k (raised 3 (pos 1) sold) sold (great_kept sold 3 k 1 more) more
 
+  -- a number that has left 64 bits on the way
+  first_of : (x y z : Bool) → x ≡ true → (x || y || z) ≡ true
+  first_of true y z e = refl
+  first_of false y z e = absurd (false≢true e)
+
+  second_of : (x y z : Bool) → y ≡ true → (x || y || z) ≡ true
+  second_of true y z e = refl
+  second_of false true z e = refl
+  second_of false false z e = absurd (false≢true e)
+
+  third_of : (x y z : Bool) → z ≡ true → (x || y || z) ≡ true
+  third_of true y z e = refl
+  third_of false true z e = refl
+  third_of false false z e = e
+
+  pub past_ytd : is_great (number_at (raised 1 (pos line.quantity) taken) 1) ≡ true → is_past (supplied w row line) ≡ true
+  past_ytd h =
+      let more : is_great (number_at sold 1) ≡ true = great_kept (raised 1 (pos line.quantity) taken) 2 1 1 h in
+      first_of _ _ _ (great_if (is_remote w line) 1 (raised 3 (pos 1) sold) sold (great_kept sold 3 1 1 more) more)
+
+  pub past_orders : is_great (number_at sold 2) ≡ true → is_past (supplied w row line) ≡ true
+  past_orders h = second_of _ _ _ (great_if (is_remote w line) 2 (raised 3 (pos 1) sold) sold (great_kept sold 3 2 1 h) h)
+
+  pub past_remotes : is_remote w line ≡ true → is_great (number_at (raised 3 (pos 1) sold) 3) ≡ true → is_past (supplied w row line) ≡ true
+  past_remotes e h = third_of (is_great (number_at (supplied w row line) 1)) (is_great (number_at (supplied w row line) 2)) _ (ap (λ b. is_great (number_at (if b then raised 3 (pos 1) sold else sold) 3)) e ∙ h)
+
   or_kept : (a b c x y z : Bool) → (a ≡ true → x ≡ true) → (b ≡ true → y ≡ true) → (c ≡ true → z ≡ true) → (a || b || c) ≡ true → (x || y || z) ≡ true
   or_kept true b c true y z f g h e = refl
   or_kept true b c false y z f g h e = absurd (false≢true (f refl))
@@ -78,9 +104,12 @@ not_great (Text t) h = absurd (false≢true h)
 small_at : (row : Row) (k : ℕ) → slice_get (columns 4) k ≡ Some number_64 → fits_all (columns 4) row ≡ true → is_great (number_at row k) ≡ false
 small_at row k c h = let there = held (columns 4) row k number_64 c h in ap (λ o. is_great (number_of o)) there.1 ∙ not_great there.0 there.2
 
-pub past_unfit : (row : Row) → is_past row ≡ true → fits_all (columns 4) row ≡ false
-past_unfit row past =
+unfit : (row : Row) → is_past row ≡ true → fits_all (columns 4) row ≡ false
+unfit row past =
     false_from_ne_true (fits_all (columns 4) row) (λ h. false≢true (sym (rw (small_at row 1 refl h, small_at row 2 refl h, small_at row 3 refl h) refl) ∙ past))
+
+pub past_unfit : (table : ℕ) (row : Row) → table ≡ 4 → is_past row ≡ true → not (fits_all (columns table) row) ≡ true
+past_unfit table row e past = ap (λ t. not (fits_all (columns t) row)) e ∙ ap not (unfit row past)
 
 -- the lines from one on
 

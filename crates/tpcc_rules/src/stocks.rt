@@ -4,29 +4,23 @@ ghost use Rattle.std.specs.List.{find, list_any};
 ghost use Rattle.deneva_base.specs.Keys.{key_eq};
 ghost use Rattle.deneva_base.specs.declared.rows.Cell.TheVariants.{Num};
 ghost use Rattle.tpcc_rules.specs.Columns as columns;
-ghost use Rattle.tpcc_rules.specs.Columns.{fits_all};
 ghost use Rattle.tpcc_rules.specs.Effects.{raised, whole};
 ghost use Rattle.tpcc_rules.specs.NewOrders as orders;
 ghost use Rattle.tpcc_rules.specs.NewOrders.{after_lines, is_great, is_past, is_out_of_range, stock_after, stock_of, stocks, supplied};
 ghost use Rattle.tpcc_rules.specs.ReadRows.{as_read};
-ghost use Rattle.tpcc_rules.specs.Tables as tables;
 
-use crate::cells::{is_between, is_up_to, number_at};
+use crate::cells::number_at;
 use crate::items::ItemList;
 use crate::programs::{Line, NewOrder};
 use crate::read_rows::{ReadRow, cells_of};
+use crate::tables::{is_table_row, stock_key};
 use deneva_base::{Cell, CellList, Key, Keyed, NoMemory, Row};
 use std::alloc::Global;
 
 fn stock_key_of(line: &Line) -> Key
     ensures { result ≡ stock_of line.now }
 {
-    Key {
-        table: 4,
-        a: line.supplier,
-        b: line.item,
-        c: 0,
-    }
+    stock_key(line.supplier, line.item)
 }
 
 fn has_key(keys: &[Key], key: Key) -> bool
@@ -100,9 +94,13 @@ fn supply(cells: &mut Vec<Cell>, w: u32, line: &Line) -> bool
     ensures past { result ≡ false → is_past (supplied w cells.old.items line.now) ≡ true }
 {
     take_quantity(cells, line.quantity);
-    raise(cells, 1, line.quantity)
-        && raise(cells, 2, 1)
-        && (line.supplier == w || raise(cells, 3, 1))
+    if !raise(cells, 1, line.quantity) {
+        return false;
+    }
+    if !raise(cells, 2, 1) {
+        return false;
+    }
+    line.supplier == w || raise(cells, 3, 1)
 }
 
 fn takes_from(line: &Line, key: Key) -> bool
@@ -130,21 +128,6 @@ fn supplied_cells(
     Ok(Some(CellList::of(cells)))
 }
 
-/// Whether a row of STOCK has the cells of its table.
-pub fn is_stock_row(row: &[Cell]) -> bool
-    ensures { result ≡ fits_all (tables.columns 4) row.now }
-{
-    match row {
-        [quantity, ytd, count, remotes, data] => {
-            is_between(quantity, 0, 9_999)
-                && (is_between(ytd, i64::MIN, i64::MAX)
-                    && (is_between(count, i64::MIN, i64::MAX)
-                        && (is_between(remotes, i64::MIN, i64::MAX) && is_up_to(data, 50))))
-        }
-        _ => false,
-    }
-}
-
 /// The stock row of a key after the order, and none where it would not be well formed.
 fn stock_row(
     alloc: Global,
@@ -159,7 +142,7 @@ fn stock_row(
     let Some(cells) = supplied_cells(alloc, order, key, cells_of(rows, key))? else {
         return Ok(None);
     };
-    if !is_stock_row(cells.as_slice()) {
+    if !is_table_row(key, cells.as_slice()) {
         return Ok(None);
     }
     let row = Row::of(alloc, cells)?;
