@@ -12,7 +12,7 @@ use Rattle.deneva_base.specs.declared.rows.Cell.TheVariants.{Num, Text}
 use Rattle.tpcc_rules.specs.Columns.{fits, fits_all, number_64, number_at, number_of}
 use Rattle.tpcc_rules.specs.Effects.{raised, whole}
 use Rattle.tpcc_rules.specs.NewOrders.{after_lines, is_great, is_past, is_remote, left_after, stock_of, supplied}
-use Rattle.tpcc_rules.specs.Tables.{columns}
+use Rattle.tpcc_rules.specs.Tables.{columns, is_table}
 use Rattle.tpcc_rules.specs.declared.programs.Line.{Line}
 use Rattle.tpcc_rules.proofs.Past.{held, set_other}
 
@@ -108,8 +108,8 @@ unfit : (row : Row) → is_past row ≡ true → fits_all (columns 4) row ≡ fa
 unfit row past =
     false_from_ne_true (fits_all (columns 4) row) (λ h. false≢true (sym (rw (small_at row 1 refl h, small_at row 2 refl h, small_at row 3 refl h) refl) ∙ past))
 
-pub past_unfit : (table : ℕ) (row : Row) → table ≡ 4 → is_past row ≡ true → not (fits_all (columns table) row) ≡ true
-past_unfit table row e past = ap (λ t. not (fits_all (columns t) row)) e ∙ ap not (unfit row past)
+pub past_unfit : (table : ℕ) (row : Row) → table ≡ 4 → is_past row ≡ true → not (is_table table && fits_all (columns table) row) ≡ true
+past_unfit table row e past = ap (λ t. not (is_table t && fits_all (columns t) row)) e ∙ ap not (unfit row past)
 
 -- the lines from one on
 

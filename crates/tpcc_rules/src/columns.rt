@@ -44,9 +44,11 @@ fn is_credit(text: &[u8]) -> bool
 pub fn fits_all(columns: &[Column], row: &[Cell]) -> bool
     ensures { result ≡ specs.fits_all columns.now row.now }
 {
-    match (columns, row) {
-        ([], []) => true,
-        ([column, columns @ ..], [cell, row @ ..]) => column.fits(cell) && fits_all(columns, row),
-        _ => false,
+    let [column, columns @ ..] = columns else {
+        return row.is_empty();
+    };
+    match row {
+        [cell, row @ ..] => column.fits(cell) && fits_all(columns, row),
+        [] => false,
     }
 }

@@ -13,11 +13,13 @@ use crate::cells::number_at;
 use crate::items::ItemList;
 use crate::programs::{Line, NewOrder};
 use crate::read_rows::{ReadRow, cells_of};
-use crate::tables::{is_table_row, stock_key};
-use deneva_base::{Cell, CellList, Key, Keyed, NoMemory, Row};
+use crate::tables::{
+    STOCK_ORDERS, STOCK_QUANTITY, STOCK_REMOTES, STOCK_YTD, is_table_row, stock_key,
+};
+use deneva_base::{Cell, CellList, Key, Keyed, NoMemory, Row, RowList};
 use std::alloc::Global;
 
-fn stock_key_of(line: &Line) -> Key
+pub fn stock_key_of(line: &Line) -> Key
     ensures { result ≡ stock_of line.now }
 {
     stock_key(line.supplier, line.item)
@@ -72,7 +74,8 @@ fn left_after(there: u64, quantity: u8) -> u64
     }
 }
 
-fn whole_of(number: i64) -> u64
+/// A whole number, and 0 for a negative one.
+pub fn whole_of(number: i64) -> u64
     ensures whole { result ≡ whole number }
     ensures small { result < 2 ^ 63 }
 {
@@ -82,9 +85,9 @@ fn whole_of(number: i64) -> u64
 fn take_quantity(cells: &mut Vec<Cell>, quantity: u8)
     ensures { cells.new.items ≡ slice_set cells.old.items 0 (Num (pos (orders.left_after (whole (columns.number_at cells.old.items 0)) quantity))) }
 {
-    let left = left_after(whole_of(number_at(cells, 0)), quantity);
+    let left = left_after(whole_of(number_at(cells, STOCK_QUANTITY)), quantity);
     if !cells.is_empty() {
-        cells[0] = Cell::Num(left as i64);
+        cells[STOCK_QUANTITY] = Cell::Num(left as i64);
     }
 }
 
@@ -94,13 +97,13 @@ fn supply(cells: &mut Vec<Cell>, w: u32, line: &Line) -> bool
     ensures past { result ≡ false → is_past (supplied w cells.old.items line.now) ≡ true }
 {
     take_quantity(cells, line.quantity);
-    if !raise(cells, 1, line.quantity) {
+    if !raise(cells, STOCK_YTD, line.quantity) {
         return false;
     }
-    if !raise(cells, 2, 1) {
+    if !raise(cells, STOCK_ORDERS, 1) {
         return false;
     }
-    line.supplier == w || raise(cells, 3, 1)
+    line.supplier == w || raise(cells, STOCK_REMOTES, 1)
 }
 
 fn takes_from(line: &Line, key: Key) -> bool
@@ -155,14 +158,14 @@ pub fn stock_rows(
     order: &NewOrder,
     keys: &[Key],
     rows: &[ReadRow<'_>],
-) -> Result<Result<Vec<Keyed>, Key>, NoMemory>
+) -> Result<Result<RowList, Key>, NoMemory>
     requires { All (λ k. k.table ≡ 4) keys.now }
     ensures { IfOk result (λ made. MatchResult made
-        (λ list. (list.items ≡ map (stock_after order.now (map as_read rows.now)) keys.now)
+        (λ list. (list ≡ map (stock_after order.now (map as_read rows.now)) keys.now)
         × (find is_out_of_range (map (stock_after order.now (map as_read rows.now)) keys.now) ≡ None))
         (λ key. option_map (λ r. r.key) (find is_out_of_range (map (stock_after order.now (map as_read rows.now)) keys.now)) ≡ Some key)) }
 {
-    let mut list = Vec::with_capacity(alloc, keys.len())?;
+    let mut list = RowList::with_capacity(alloc, keys.len())?;
     for key in keys {
         match stock_row(alloc, order, *key, rows)? {
             Some(row) => list.push(row)?,

@@ -8,6 +8,6 @@ use Rattle.tpcc_rules.proofs.stocks.stock_rows.Given as goal
 abbrev pub invariant-loop-key : goal.invariant-loop-key
 invariant-loop-key l =
     let after = stock_after l.order (map as_read l.rows) in record {
-      made : l.list.items ≡ map after (take l.key-index l.keys);
+      made : l.list ≡ map after (take l.key-index l.keys);
       fine : find is_out_of_range (map after (drop l.key-index l.keys)) ≡ find is_out_of_range (map after l.keys);
     }
