@@ -127,7 +127,7 @@ fn history_row(
 }
 
 /// An effect that is rolled back.
-fn rolled_back(alloc: Global, reason: Reason) -> Effect
+pub fn rolled_back(alloc: Global, reason: Reason) -> Effect
     ensures { result ≡ effects.rolled_back reason }
 {
     Effect {
@@ -139,7 +139,7 @@ fn rolled_back(alloc: Global, reason: Reason) -> Effect
 }
 
 /// A row with its key.
-fn keyed(alloc: Global, key: Key, cells: CellList) -> Result<Keyed, NoMemory>
+pub fn keyed(alloc: Global, key: Key, cells: CellList) -> Result<Keyed, NoMemory>
     ensures { IfOk result (λ r. r ≡ record { key = key; row = cells }) }
 {
     let row = Row::of(alloc, cells)?;
