@@ -1,0 +1,6 @@
+pub mod Files
+pub mod Gives
+pub mod Grammar
+pub mod Numbers
+pub mod Reader
+pub mod Sources
