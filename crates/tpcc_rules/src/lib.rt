@@ -3,20 +3,24 @@
 
 mod cells;
 mod effects;
+mod items;
 mod payments;
 mod programs;
 mod read_rows;
+mod stand_in;
 
 pub use cells::{
     is_district_row, is_warehouse_row, number_at, raised_copy, text_at, warehouse_copy,
 };
 use deneva_base::Items;
 pub use effects::{Effect, Reason, Verdict};
+pub use items::ItemList;
 pub use payments::payment_effect;
 pub use programs::{Item, Line, NewOrder, Payment};
 pub use read_rows::{ReadRow, cells_of, row_among, rows_lying};
+pub use stand_in::{
+    customer_key, district_key, new_order_effect, stock_key, stock_keys, warehouse_key,
+};
 
 /// The lines of a new order.
 pub type LineList = Items<Line>;
-/// The items of a load.
-pub type ItemList = Items<Item>;

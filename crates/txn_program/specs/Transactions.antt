@@ -16,8 +16,14 @@ use Rattle.txn_program.specs.declared.programs.YcsbAct.{YcsbAct}
 use Rattle.txn_program.specs.declared.programs.YcsbAct.TheVariants.{Read, Update, Put}
 use Rattle.txn_program.specs.declared.programs.YcsbStep.{YcsbStep}
 use Rattle.txn_program.specs.declared.programs.Program.{Program}
-use Rattle.txn_program.specs.declared.programs.Program.TheVariants.{Ycsb}
+use Rattle.txn_program.specs.declared.programs.Program.TheVariants.{Ycsb, Payment, NewOrder}
 use Rattle.txn_program.specs.declared.programs.Load.{Load}
+use Rattle.tpcc_rules.specs.NewOrders.{new_order, stocks}
+use Rattle.tpcc_rules.specs.Payments.{payment}
+use Rattle.tpcc_rules.specs.Tables.{warehouse_key, district_key, customer_key}
+use Rattle.tpcc_rules.specs.declared.programs.Item.{Item}
+use Rattle.tpcc_rules.specs.declared.programs.NewOrder as orders
+use Rattle.tpcc_rules.specs.declared.programs.Payment as payments
 use Rattle.tpcc_rules.specs.declared.effects.Verdict.TheVariants.{Commit}
 use Rattle.tpcc_rules.specs.declared.effects.Effect.{Effect}
 
@@ -33,9 +39,26 @@ mode_of (Put row) = mode.Put
 abbrev pub access_of : YcsbStep → Access
 access_of step = record { key = ycsb_key step.key; mode = mode_of step.act }
 
+abbrev pub reads_key : Key → Access
+reads_key key = record { key = key; mode = mode.Read }
+
+abbrev pub updates_key : Key → Access
+updates_key key = record { key = key; mode = mode.Update }
+
+abbrev pub payment_accesses : payments.Payment → List Access
+payment_accesses p = updates_key (warehouse_key p.w) ∷ updates_key (district_key p.w p.d) ∷ updates_key (customer_key p.cw p.cd p.c) ∷ []
+
+-- the stocks of the lines whose items are loaded come last, each once
+abbrev pub new_order_accesses : List Item → orders.NewOrder → List Access
+new_order_accesses items o =
+    reads_key (warehouse_key o.w) ∷ updates_key (district_key o.w o.d) ∷ reads_key (customer_key o.w o.d o.c)
+    ∷ map updates_key (stocks items o.lines)
+
 -- the accesses of a transaction, in its order
 abbrev pub accesses : Load → Program → List Access
 accesses load (Ycsb steps) = map access_of steps
+accesses load (Payment p) = payment_accesses p
+accesses load (NewOrder o) = new_order_accesses load.items o
 
 -- those that read
 abbrev pub reading : List Access → List Access
@@ -53,6 +76,8 @@ written rows step = written_to rows (ycsb_key step.key) step.act
 -- what a transaction makes of the rows of its accesses that read
 abbrev pub effect : Load → TxnId → Program → List Keyed → Effect
 effect load id (Ycsb steps) rows = record { verdict = Commit; writes = filter_map (written rows) steps; appends = []; answer = pos 0 }
+effect load id (Payment p) rows = payment id p rows
+effect load id (NewOrder o) rows = new_order load.items id o rows
 
 -- what of an effect lies at a partition
 abbrev pub effect_at : ℕ → ℕ → Effect → Effect

@@ -10,9 +10,11 @@ ghost use Rattle.txn_program.specs.Transactions.{effect, effect_within, rows_wit
 use crate::accesses::ycsb_key_of;
 use crate::partitions::{Partition, is_within};
 use crate::programs::{Load, Program, YcsbAct, YcsbPut, YcsbStep};
-use deneva_base::{ByteList, Cell, CellList, Key, Keyed, NoMemory, Row, RowList, TxnId};
+use deneva_base::{ByteList, Cell, CellList, Key, Keyed, NoMemory, Row, RowList, TxnId, partition_of};
 use std::alloc::Global;
-use tpcc_rules::{Effect, ReadRow, Verdict, cells_of, rows_lying};
+use tpcc_rules::{
+    Effect, ReadRow, Verdict, cells_of, new_order_effect, payment_effect, rows_lying,
+};
 
 /// A copy of the cells, one of which is replaced by a text.
 fn with_text(alloc: Global, cells: &[Cell], field: u8, text: ByteList) -> Result<CellList, NoMemory>
@@ -63,8 +65,41 @@ fn ycsb_writes(
     Ok(writes)
 }
 
+/// Those of the rows that lie at the partition, and without one all of them.
+fn kept_rows(rows: RowList, made: Option<Partition>) -> RowList
+    requires parts { IfSome made (λ p. 1 ≤ p.parts) }
+    ensures { result ≡ rows_within made rows }
+{
+    let Some(partition) = made else {
+        return rows;
+    };
+    let mut rows = rows.into_vec();
+    rows.retain(|keyed| partition_of(keyed.key, partition.parts) == partition.part);
+    RowList::of(rows)
+}
+
+/// What of an effect lies at the partition, and without one all of it.
+fn kept_within(effect: Effect, made: Option<Partition>) -> Effect
+    requires parts { IfSome made (λ p. 1 ≤ p.parts) }
+    ensures { result ≡ effect_within made effect }
+{
+    let Effect {
+        verdict,
+        writes,
+        appends,
+        answer,
+    } = effect;
+    Effect {
+        verdict,
+        writes: kept_rows(writes, made),
+        appends: kept_rows(appends, made),
+        answer,
+    }
+}
+
 /// What a transaction makes of the rows that it reads, or of that what lies at one partition: rows that lie elsewhere are
-/// not made. A YCSB transaction always commits, appends nothing and answers 0.
+/// not made. A YCSB transaction always commits, appends nothing and answers 0; TPC-C's effects are made whole, and then
+/// cut down.
 pub fn effect_within(
     alloc: Global,
     load: &Load,
@@ -83,6 +118,14 @@ pub fn effect_within(
             appends: RowList::new(alloc),
             answer: 0,
         }),
+        Program::Payment(payment) => {
+            let whole = payment_effect(alloc, id, payment, rows)?;
+            Ok(kept_within(whole, made))
+        }
+        Program::NewOrder(order) => {
+            let whole = new_order_effect(alloc, &load.items, id, order, rows)?;
+            Ok(kept_within(whole, made))
+        }
     }
 }
 

@@ -10,6 +10,7 @@ mod serial;
 #[cfg(test)]
 mod tests;
 mod threads;
+mod tpcc_validity;
 mod validity;
 
 pub use accesses::{accesses_of, home, ycsb_key_of};
@@ -22,7 +23,9 @@ pub use laws::{
 pub use partitions::{Partition, partitions_of};
 pub use programs::{Load, Program, WorkKind, Workload, YcsbAct, YcsbPut, YcsbStep};
 pub use serial::{SerialRun, SerialTxn};
-pub use tpcc_rules::{Effect, ReadRow, Reason, Verdict, row_among};
+pub use tpcc_rules::{
+    Effect, Item, ItemList, Line, LineList, NewOrder, Payment, ReadRow, Reason, Verdict, row_among,
+};
 pub use validity::valid;
 
 /// The steps of a YCSB transaction.

@@ -6,6 +6,7 @@ ghost use Rattle.txn_program.specs.Serial.{all_ids, program_of};
 use crate::{ProgramList, StepList};
 use deneva_base::{ByteList, Copied, NoMemory, Row, RowList, TxnId};
 use std::alloc::Global;
+use tpcc_rules::{ItemList, NewOrder, Payment};
 
 /// A new text for one field of a row.
 #[derive(Debug, Drop)]
@@ -69,6 +70,10 @@ impl Copied for YcsbStep {
 #[derive(Debug, Drop)]
 pub enum Program {
     Ycsb(StepList),
+    /// Payment of TPC-C (2.5).
+    Payment(Payment),
+    /// NewOrder of TPC-C (2.4).
+    NewOrder(NewOrder),
 }
 
 impl Copied for Program {
@@ -78,6 +83,11 @@ impl Copied for Program {
                 let steps = steps.copy(alloc)?;
                 Ok(Program::Ycsb(steps))
             }
+            Program::Payment(payment) => Ok(Program::Payment(*payment)),
+            Program::NewOrder(order) => {
+                let order = order.copied(alloc)?;
+                Ok(Program::NewOrder(order))
+            }
         }
     }
 }
@@ -86,15 +96,18 @@ impl Copied for Program {
 #[derive(Clone, Copy, Debug, PartialEq, Eq)]
 pub enum WorkKind {
     Ycsb,
+    Tpcc,
 }
 
 /// What stands in the store before the first transaction.
 #[derive(Debug, Drop)]
 pub struct Load {
     pub kind: WorkKind,
-    /// The number of fields of each YCSB row, 1 to 10.
+    /// The number of fields of each YCSB row, 1 to 10, and 0 in a load of TPC-C.
     pub fields: u8,
     pub rows: RowList,
+    /// The items of TPC-C, which every partition knows; none in a load of YCSB.
+    pub items: ItemList,
 }
 
 /// A load and the transactions that run over it: transaction 1 is the first of `programs`.

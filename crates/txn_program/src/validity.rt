@@ -5,14 +5,20 @@ ghost use Rattle.deneva_base.specs.Keys.{key_eq};
 ghost use Rattle.deneva_base.specs.Rising.{keys_rise, rise_after};
 ghost use Rattle.deneva_base.specs.Rows.{has_key};
 ghost use Rattle.txn_program.specs.Transactions.{ycsb_key};
-ghost use Rattle.txn_program.specs.Valid.{are_distinct, is_plain, is_row, is_text, is_text_cell, is_valid, is_valid_act, is_valid_load, is_valid_program, is_valid_row, is_valid_step, is_ycsb_key};
+ghost use Rattle.txn_program.specs.Valid.{are_distinct, is_plain, is_row, is_text, is_text_cell, is_tpcc_load, is_valid, is_valid_act, is_valid_load, is_valid_program, is_valid_row, is_valid_step, is_ycsb_key, is_ycsb_load};
+ghost use Rattle.txn_program.specs.Valid as valid;
+ghost use Rattle.tpcc_rules.specs.NewOrders.{is_loaded};
 
 use crate::accesses::ycsb_key_of;
-use crate::programs::{Load, Program, Workload, YcsbAct, YcsbStep};
+use crate::programs::{Load, Program, WorkKind, Workload, YcsbAct, YcsbStep};
+use crate::tpcc_validity::{fit_items, fit_rows, fits_numbers};
 use deneva_base::{Cell, Key, Keyed};
+use tpcc_rules::{
+    Line, NewOrder, Payment, customer_key, district_key, stock_key, warehouse_key,
+};
 
 /// Whether each byte of a text stands for itself in a field of a file.
-fn all_plain(text: &[u8]) -> bool
+pub(crate) fn all_plain(text: &[u8]) -> bool
     ensures { result ≡ list_all is_plain text.now }
 {
     text.iter().all(|b| !(*b == b',' || *b == b'"' || *b == b'\n' || *b == b'\r'))
@@ -178,17 +184,37 @@ impl<'a> LoadView<'a> {
         self.rising || rows_are_apart(self.load.rows.as_slice())
     }
 
+    /// Whether the load is one of YCSB.
+    fn fits_ycsb(&self) -> bool
+        ensures { result ≡ is_ycsb_load self.now.load.now }
+    {
+        let rows = self.load.rows.as_slice();
+        let fields = self.load.fields;
+        (1 <= fields && fields <= 10)
+            && (rows.len() <= 1_000_000 && fits_rows(fields, rows) && self.are_rows_apart())
+            && self.load.items.len() == 0
+    }
+
+    /// Whether the load is one of TPC-C.
+    fn fits_tpcc(&self) -> bool
+        ensures { result ≡ is_tpcc_load self.now.load.now }
+    {
+        let rows = self.load.rows.as_slice();
+        let items = &self.load.items;
+        self.load.fields == 0
+            && (rows.len() <= 1_000_000 && fit_rows(rows) && self.are_rows_apart())
+            && items.len() <= 100_000
+            && fit_items(items.as_slice())
+    }
+
     /// Whether the load is valid.
     fn fits(&self) -> bool
         ensures { result ≡ is_valid_load self.now.load.now }
     {
-        let rows = self.load.rows.as_slice();
-        let fields = self.load.fields;
-        1 <= fields
-            && fields <= 10
-            && rows.len() <= 1_000_000
-            && fits_rows(fields, rows)
-            && self.are_rows_apart()
+        match self.load.kind {
+            WorkKind::Ycsb => self.fits_ycsb(),
+            WorkKind::Tpcc => self.fits_tpcc(),
+        }
     }
 
     fn fits_step(&self, step: &YcsbStep) -> bool
@@ -203,6 +229,58 @@ impl<'a> LoadView<'a> {
         steps.iter().all(|step| self.fits_step(step))
     }
 
+    fn has_district(&self, w: u32, d: u32) -> bool
+        ensures { result ≡ valid.has_district self.now.load.now w d }
+    {
+        self.has(warehouse_key(w)) && self.has(district_key(w, d))
+    }
+
+    fn has_customer(&self, w: u32, d: u32, c: u32) -> bool
+        ensures { result ≡ valid.has_customer self.now.load.now w d c }
+    {
+        self.has(customer_key(w, d, c))
+    }
+
+    fn fits_payment(&self, payment: &Payment) -> bool
+        ensures { result ≡ valid.is_valid_payment self.now.load.now payment.now }
+    {
+        1 <= payment.amount
+            && payment.amount <= 500_000
+            && self.has_district(payment.w, payment.d)
+            && self.has_customer(payment.cw, payment.cd, payment.c)
+    }
+
+    /// Whether the line's item is loaded.
+    #[tactic(auto, using(crate::proofs::Found::some_found))]
+    fn has_item(&self, line: &Line) -> bool
+        ensures { result ≡ is_loaded self.now.load.now.items line.now }
+    {
+        self.load.items.find(line.item).is_some()
+    }
+
+    fn fits_line(&self, line: &Line) -> bool
+        ensures { result ≡ valid.is_valid_line self.now.load.now line.now }
+    {
+        fits_numbers(line)
+            && (!self.has_item(line) || self.has(stock_key(line.supplier, line.item)))
+    }
+
+    fn fits_lines(&self, lines: &[Line]) -> bool
+        ensures { result ≡ list_all (valid.is_valid_line self.now.load.now) lines.now }
+    {
+        lines.iter().all(|line| self.fits_line(line))
+    }
+
+    fn fits_order(&self, order: &NewOrder) -> bool
+        ensures { result ≡ valid.is_valid_order self.now.load.now order.now }
+    {
+        let lines = order.lines.as_slice();
+        (1 <= lines.len() && lines.len() <= 15)
+            && self.fits_lines(lines)
+            && self.has_district(order.w, order.d)
+            && self.has_customer(order.w, order.d, order.c)
+    }
+
     fn fits_program(&self, program: &Program) -> bool
         ensures { result ≡ is_valid_program self.now.load.now program.now }
     {
@@ -213,6 +291,8 @@ impl<'a> LoadView<'a> {
                     && self.fits_steps(steps.as_slice())
                     && steps_are_apart(steps.as_slice())
             }
+            Program::Payment(payment) => self.fits_payment(payment),
+            Program::NewOrder(order) => self.fits_order(order),
         }
     }
 
@@ -223,10 +303,17 @@ impl<'a> LoadView<'a> {
     }
 }
 
-/// Whether some file gives this workload: 1 to 10 fields, at most 1,000,000 rows of so many plain texts, each with a key
-/// of its own, and at most 10,000 transactions of 1 to 16 steps, each on a loaded key that no other step of its
-/// transaction has. Where the keys of the rows strictly rise, as a reader of files leaves them, this takes one pass over
-/// the rows and a binary search for each step; else its time grows with the square of the number of rows.
+/// Whether some file gives this workload: at most 1,000,000 rows, each with a key of its own, and at most 10,000
+/// transactions.
+///
+/// A load of YCSB has 1 to 10 fields and rows of so many plain texts; each transaction has 1 to 16 steps, each on a loaded
+/// key that no other step of its transaction has. A load of TPC-C has rows of the tables 1 to 4 and at most 100,000 items,
+/// each with a number of its own, all with numbers in their ranges and plain texts; a payment and an order name a
+/// district with its warehouse and a customer that are loaded, and an order has 1 to 15 lines. A line may name an item
+/// that is not loaded; if it is loaded, so is its stock at the supplier.
+///
+/// Where the keys of the rows and the numbers of the items strictly rise, as a reader of files leaves them, this takes one
+/// pass over them and a binary search for each access; else its time grows with the square of their number.
 pub fn valid(work: &Workload) -> bool
     ensures { result ≡ is_valid work.now }
 {
