@@ -2,7 +2,8 @@
 ghost use Rattle.std.specs.Prelude.{◌≡◌, ◌+ℤ◌, ◌-ℤ◌, FitsSigned, IfOk, MatchOption, true, false};
 ghost use Rattle.std.specs.Int.{w64};
 ghost use Rattle.tpcc_rules.specs.Columns as columns;
-ghost use Rattle.tpcc_rules.specs.Columns.{fits, fits_all, Between, UpTo, Credit, number_64};
+ghost use Rattle.tpcc_rules.specs.Columns.{fits, fits_all, number_64};
+ghost use Rattle.tpcc_rules.specs.declared.columns.Column.TheVariants.{Between, UpTo, Credit};
 ghost use Rattle.tpcc_rules.specs.Effects.{lowered, raised};
 ghost use Rattle.tpcc_rules.specs.Tables as tables;
 

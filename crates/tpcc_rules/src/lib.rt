@@ -2,6 +2,7 @@
 #![tactic(auto)]
 
 mod cells;
+mod columns;
 mod effects;
 mod items;
 mod payments;
@@ -12,6 +13,7 @@ mod stand_in;
 pub use cells::{
     is_district_row, is_warehouse_row, number_at, raised_copy, text_at, warehouse_copy,
 };
+pub use columns::Column;
 use deneva_base::Items;
 pub use effects::{Effect, Reason, Verdict};
 pub use items::ItemList;

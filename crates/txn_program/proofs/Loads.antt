@@ -8,7 +8,9 @@ use Rattle.deneva_base.specs.declared.keys.Key.{Key}
 use Rattle.deneva_base.specs.declared.rows.Cell.{Cell}
 use Rattle.deneva_base.specs.declared.rows.Cell.TheVariants.{Num, Text}
 use Rattle.deneva_base.specs.declared.rows.Keyed.{Keyed}
-use Rattle.tpcc_rules.specs.Columns.{Column, Between, UpTo, number_64, fits, fits_all}
+use Rattle.tpcc_rules.specs.Columns.{number_64, fits, fits_all}
+use Rattle.tpcc_rules.specs.declared.columns.Column.{Column}
+use Rattle.tpcc_rules.specs.declared.columns.Column.TheVariants.{Between, UpTo}
 use Rattle.tpcc_rules.specs.Tables.{columns, loaded_columns, is_table_row, rate}
 use Rattle.txn_program.specs.declared.programs.Load.{Load}
 use Rattle.txn_program.specs.declared.programs.WorkKind.{WorkKind}

@@ -1,7 +1,6 @@
 -- What a reader has read so far.
 use Rattle.std.specs.Prelude.{◌≡◌, ⊤, ℕ, Result, Ok, Err}
 use Rattle.deneva_base.specs.Rows.{rows_in}
-use Rattle.txn_program.specs.declared.programs.WorkKind.TheVariants.{Ycsb}
 use Rattle.txn_program.specs.declared.programs.Workload.{Workload}
 use Rattle.workload_text.specs.declared.faults.Flaw.{Flaw}
 use Rattle.workload_text.specs.declared.faults.InputFault.{InputFault}
@@ -10,24 +9,36 @@ use Rattle.workload_text.specs.declared.faults.ReadError.TheVariants.{NoMemory, 
 use Rattle.workload_text.specs.declared.faults.RecordError.{RecordError}
 use Rattle.workload_text.specs.declared.faults.RecordError.TheVariants as errors
 use Rattle.workload_text.specs.declared.heads.Head.{Head}
-use Rattle.workload_text.specs.declared.reader.Reading.{Reading}
-use Rattle.workload_text.specs.declared.reader.Progress.{Progress}
-use Rattle.workload_text.specs.declared.reader.Progress.TheVariants.{More, Ended}
+use Rattle.workload_text.specs.declared.reading.Reading.{Reading}
+use Rattle.workload_text.specs.declared.reading.Progress.{Progress}
+use Rattle.workload_text.specs.declared.reading.Progress.TheVariants.{More, Ended}
 use Rattle.workload_text.specs.declared.said.Said.{Said}
-use Rattle.workload_text.specs.declared.said.Said.TheVariants.{Loads, Runs, Ends}
+use Rattle.workload_text.specs.declared.said.Said.TheVariants.{Loads, Sells, Runs, Ends}
 use Rattle.workload_text.specs.Gives.{Fails}
-use Rattle.workload_text.specs.Grammar.{with_row, with_program, fault_of}
+use Rattle.workload_text.specs.Fields.{fault_of}
+use Rattle.workload_text.specs.Grammar.{with_row, with_item, with_program, kind_of, fields_of_head}
+use Rattle.workload_text.specs.SortedItems.{items_in}
 
 -- the workload so far
 abbrev pub work_of : Reading → Workload
-work_of reading = record { load = record { kind = Ycsb; fields = reading.head.fields; rows = rows_in reading.rows.entries }; programs = reading.programs }
+work_of reading = record {
+  load = record {
+    kind = kind_of reading.head;
+    fields = fields_of_head reading.head;
+    rows = rows_in reading.rows.entries;
+    items = items_in reading.items.entries;
+  };
+  programs = reading.programs;
+}
 
 -- what a record does to the workload so far: it adds what the record says, or the file ends
 abbrev pub Advances : Workload → Workload → Result Said Flaw → Progress → Type 0
 Advances old new (Ok (Loads r)) More = new ≡ with_row old r
+Advances old new (Ok (Sells i)) More = new ≡ with_item old i
 Advances old new (Ok (Runs p)) More = new ≡ with_program old p
 Advances old new (Ok Ends) Ended = new ≡ old
 Advances old new (Ok (Loads r)) Ended = ⊥
+Advances old new (Ok (Sells i)) Ended = ⊥
 Advances old new (Ok (Runs p)) Ended = ⊥
 Advances old new (Ok Ends) More = ⊥
 Advances old new (Err f) progress = ⊥

@@ -1,6 +1,6 @@
 //! What can be wrong with a workload file.
 ghost use Rattle.std.specs.Prelude.{◌≡◌, min};
-ghost use Rattle.workload_text.specs.Grammar as grammar;
+ghost use Rattle.workload_text.specs.Fields as spelled;
 
 use deneva_base::{NoMemory, PushNoMemory};
 
@@ -65,7 +65,7 @@ fn fault_number(n: usize) -> u32
 
 /// A fault of a file.
 pub fn fault(record_no: usize, field_no: usize, kind: FaultKind) -> InputFault
-    ensures { result ≡ grammar.fault record_no field_no kind }
+    ensures { result ≡ spelled.fault record_no field_no kind }
 {
     InputFault {
         record_no: fault_number(record_no),

@@ -1,65 +1,51 @@
 //! The head of a workload file, and what every record is read with.
-ghost use Rattle.std.specs.Prelude.{◌≡◌, ◌≤◌, map};
-ghost use Rattle.std.specs.Str.{bytes_eq};
+ghost use Rattle.std.specs.Prelude.{◌≡◌, ◌≤◌, map, length};
 ghost use Rattle.workload_text.specs.Grammar as grammar;
-ghost use Rattle.workload_text.specs.declared.faults.RecordError.TheVariants as errors;
+ghost use Rattle.workload_text.specs.declared.heads.Format.TheVariants.{One, Two};
 
-use crate::numbers::number_within;
-use crate::faults::{FaultKind, Flaw, RecordError};
+use crate::faults::{FaultKind, Flaw};
+use crate::fields::{field, flaw, is_word, number_at};
+use txn_program::WorkKind;
 
-/// The format of a file. Format 2 has the step `p` beside those of format 1.
+/// The format of a file. Format 2 has the step `p` beside those of format 1, and no TPC-C.
 #[derive(Clone, Copy, Debug, PartialEq, Eq)]
 pub enum Format {
     One,
     Two,
 }
 
-/// What the head says: the format, and how many fields a row has.
+/// What the head of a file of YCSB says: the format, and how many fields a row has.
 #[derive(Clone, Copy, Debug, PartialEq, Eq)]
-pub struct Head {
+pub struct YcsbHead {
     pub format: Format,
     pub fields: u8,
 }
 
-/// A flaw of a field, or of the whole record where the field is 0.
-pub fn flaw(field_no: usize, kind: FaultKind) -> Flaw
-    ensures { result ≡ grammar.flaw field_no kind }
-{
-    Flaw { field_no, kind }
+/// What the head says.
+#[derive(Clone, Copy, Debug, PartialEq, Eq)]
+pub enum Head {
+    Ycsb(YcsbHead),
+    Tpcc,
 }
 
-/// A flaw as the error of its record.
-pub fn flaw_error(field_no: usize, kind: FaultKind) -> RecordError
-    ensures { result ≡ errors.Flawed (grammar.flaw field_no kind) }
-{
-    RecordError::Flawed(flaw(field_no, kind))
-}
-
-/// Field `number` of a record, counted from 1, and no bytes where the record ends before it.
-pub fn field<'a>(fields: &[&'a [u8]], number: usize) -> &'a [u8]
-    requires { 1 ≤ number }
-    ensures { result.now ≡ grammar.field_at number (map (λ f. f.now) fields.now) }
-{
-    match fields.get(number - 1) {
-        Some(field) => field,
-        None => b"",
+impl Head {
+    pub fn kind(self) -> WorkKind
+        ensures { result ≡ grammar.kind_of self }
+    {
+        match self {
+            Head::Ycsb(_) => WorkKind::Ycsb,
+            Head::Tpcc => WorkKind::Tpcc,
+        }
     }
-}
 
-/// Whether a field is this word.
-pub fn is_word(field: &[u8], word: &str) -> bool
-    ensures { result ≡ bytes_eq field.now word.now }
-{
-    field == word.as_bytes()
-}
-
-/// A number between two limits, which stands at this field of its record.
-pub fn number_at(field_no: usize, field: &[u8], low: u32, high: u32) -> Result<u32, Flaw>
-    ensures { result ≡ grammar.number_at field_no low high field.now }
-{
-    match number_within(field, low, high) {
-        Ok(number) => Ok(number),
-        Err(kind) => Err(flaw(field_no, kind)),
+    /// How many fields a row of YCSB has.
+    pub fn fields(self) -> u8
+        ensures { result ≡ grammar.fields_of_head self }
+    {
+        match self {
+            Head::Ycsb(head) => head.fields,
+            Head::Tpcc => 0,
+        }
     }
 }
 
@@ -75,6 +61,35 @@ fn format_of(field: &[u8]) -> Option<Format>
     }
 }
 
+fn ycsb_head(fields: &[&[u8]], format: Format) -> Result<Head, Flaw>
+    ensures { result ≡ grammar.ycsb_head (map (λ f. f.now) fields.now) format }
+{
+    if !is_word(field(fields, 3), "ycsb") {
+        return Err(flaw(3, FaultKind::Kind));
+    }
+    if fields.len() != 4 {
+        return Err(flaw(0, FaultKind::Arity));
+    }
+    let count = number_at(4, field(fields, 4), 1, 10)?;
+    Ok(Head::Ycsb(YcsbHead {
+        format,
+        fields: count as u8,
+    }))
+}
+
+/// The head of a file of format 1.
+fn head_of_one(fields: &[&[u8]]) -> Result<Head, Flaw>
+    ensures { result ≡ grammar.kind_of_format (map (λ f. f.now) fields.now) One }
+{
+    if !is_word(field(fields, 3), "tpcc") {
+        return ycsb_head(fields, Format::One);
+    }
+    if fields.len() != 3 {
+        return Err(flaw(0, FaultKind::Arity));
+    }
+    Ok(Head::Tpcc)
+}
+
 /// The head that the first record of a file is.
 pub fn head_of(fields: &[&[u8]]) -> Result<Head, Flaw>
     ensures { result ≡ grammar.head_from (map (λ f. f.now) fields.now) }
@@ -88,15 +103,8 @@ pub fn head_of(fields: &[&[u8]]) -> Result<Head, Flaw>
     if fields.len() < 3 {
         return Err(flaw(0, FaultKind::Arity));
     }
-    if !is_word(field(fields, 3), "ycsb") {
-        return Err(flaw(3, FaultKind::Kind));
+    match format {
+        Format::One => head_of_one(fields),
+        Format::Two => ycsb_head(fields, format),
     }
-    if fields.len() != 4 {
-        return Err(flaw(0, FaultKind::Arity));
-    }
-    let count = number_at(4, field(fields, 4), 1, 10)?;
-    Ok(Head {
-        format,
-        fields: count as u8,
-    })
 }

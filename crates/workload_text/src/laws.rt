@@ -3,8 +3,9 @@ ghost use Rattle.std.specs.Prelude.{◌≡◌, ◌≤◌, ℕ, List, length, Ok}
 ghost use Rattle.txn_program.specs.Valid.{IsValid};
 ghost use Rattle.txn_program.specs.declared.programs.Workload.{Workload};
 ghost use Rattle.workload_text.specs.Files.{IsRising, AreNumbers, in_order};
-ghost use Rattle.workload_text.specs.Grammar.{steps_from, workload_of};
-ghost use Rattle.workload_text.specs.declared.heads.Head.{Head};
+ghost use Rattle.workload_text.specs.Grammar.{workload_of};
+ghost use Rattle.workload_text.specs.Ycsb.{steps_from};
+ghost use Rattle.workload_text.specs.declared.heads.YcsbHead.{YcsbHead};
 
 /// The workload that a file gives is valid, and its rows stand in strictly rising key order.
 pub fn files_are_valid()
@@ -20,5 +21,5 @@ pub fn valid_workloads_have_files()
 /// The bound on the number of steps is never met: one that is no less than the number of fields gives the same steps, or the
 /// same fault, as any other.
 pub fn steps_are_all_read()
-    ensures { (head : Head) (most other n : ℕ) (fields : List (List ℕ)) → length fields ≤ most → length fields ≤ other → steps_from head most n fields ≡ steps_from head other n fields }
+    ensures { (head : YcsbHead) (most other n : ℕ) (fields : List (List ℕ)) → length fields ≤ most → length fields ≤ other → steps_from head most n fields ≡ steps_from head other n fields }
 {}

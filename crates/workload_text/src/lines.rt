@@ -9,9 +9,10 @@ ghost use Rattle.records.specs.Records.{fields_of};
 use crate::faults::{FaultKind, ReadError, RecordError, fault};
 use crate::heads::{Head, head_of};
 use crate::quotes::first_quote;
-use crate::reader::{Progress, Reading};
-use records::{split_fields, split_lines};
+use crate::reader::read_line;
+use crate::reading::{Progress, Reading};
 use deneva_base::ByteList;
+use records::{split_fields, split_lines};
 use std::alloc::Global;
 use txn_program::Workload;
 
@@ -59,7 +60,7 @@ fn read_records(alloc: Global, head: Head, lines: &[&[u8]]) -> Result<Workload, 
 {
     let mut reading = Reading::new(alloc, head);
     for (place, line) in lines.iter().enumerate() {
-        match reading.read(alloc, line) {
+        match read_line(alloc, &mut reading, line) {
             Ok(Progress::More) => {}
             Ok(Progress::Ended) => return read_end(alloc, reading, place + 3, &lines[place + 1..]),
             Err(error) => return Err(at_record(place + 2, error)),

@@ -1,11 +1,12 @@
 //! Quoted fields, which are not read.
 ghost use Rattle.std.specs.Prelude.{◌≡◌, ◌≤◌, min, map, length, IfOk, IfSome};
 ghost use Rattle.records.specs.Records.{has_quote, fields_of};
-ghost use Rattle.workload_text.specs.Grammar.{fault, quoted_field, quote_from};
+ghost use Rattle.workload_text.specs.Fields.{fault};
+ghost use Rattle.workload_text.specs.Grammar.{quoted_field, quote_from};
 
 use crate::faults::{FaultKind, InputFault, fault};
-use records::split_fields;
 use deneva_base::NoMemory;
+use records::split_fields;
 use std::alloc::Global;
 
 fn has_quote_in(bytes: &[u8]) -> bool

@@ -1,10 +1,11 @@
 //! The steps of a transaction's record.
 ghost use Rattle.std.specs.Prelude.{◌≡◌, ◌+◌, ◌<◌, ◌≤◌, ◌^◌, map, length, drop};
 ghost use Rattle.workload_text.specs.Gives.{Gives};
-ghost use Rattle.workload_text.specs.Grammar as grammar;
+ghost use Rattle.workload_text.specs.Ycsb as ycsb;
 
 use crate::faults::{FaultKind, RecordError};
-use crate::heads::{Format, Head, field, flaw_error, is_word, number_at};
+use crate::fields::{field, flaw_error, is_word, number_at};
+use crate::heads::{Format, YcsbHead};
 use crate::texts::{text_at, texts_from};
 use deneva_base::Items;
 use std::alloc::Global;
@@ -18,8 +19,8 @@ pub struct Placed {
 }
 
 /// How many fields a step has after its word.
-fn width_of(head: Head, word: &[u8]) -> Option<usize>
-    ensures { result ≡ grammar.width head word.now }
+fn width_of(head: YcsbHead, word: &[u8]) -> Option<usize>
+    ensures { result ≡ ycsb.width head word.now }
 {
     if is_word(word, "r") {
         Some(1)
@@ -36,9 +37,14 @@ fn width_of(head: Head, word: &[u8]) -> Option<usize>
 }
 
 /// The replacement of one field, from the fields after the key of a step whose word stands at this field.
-fn put_of(alloc: Global, head: Head, word_no: usize, more: &[&[u8]]) -> Result<YcsbPut, RecordError>
+fn put_of(
+    alloc: Global,
+    head: YcsbHead,
+    word_no: usize,
+    more: &[&[u8]],
+) -> Result<YcsbPut, RecordError>
     requires { word_no + 3 < 2 ^ 64 }
-    ensures { Gives result (grammar.put_from head word_no (map (λ f. f.now) more.now)) }
+    ensures { Gives result (ycsb.put_from head word_no (map (λ f. f.now) more.now)) }
 {
     let last = u32::from(head.fields.saturating_sub(1));
     let place = number_at(word_no + 2, field(more, 1), 0, last)?;
@@ -52,13 +58,13 @@ fn put_of(alloc: Global, head: Head, word_no: usize, more: &[&[u8]]) -> Result<Y
 /// What a step does, from the fields after its key.
 fn act_of(
     alloc: Global,
-    head: Head,
+    head: YcsbHead,
     word_no: usize,
     word: &[u8],
     more: &[&[u8]],
 ) -> Result<YcsbAct, RecordError>
     requires { word_no + 3 + length more.now < 2 ^ 64 }
-    ensures { Gives result (grammar.act_from head word_no word.now (map (λ f. f.now) more.now)) }
+    ensures { Gives result (ycsb.act_from head word_no word.now (map (λ f. f.now) more.now)) }
 {
     if is_word(word, "r") {
         Ok(YcsbAct::Read)
@@ -74,14 +80,14 @@ fn act_of(
 /// A step, from the fields after its word.
 fn step_of(
     alloc: Global,
-    head: Head,
+    head: YcsbHead,
     word_no: usize,
     word: &[u8],
     args: &[&[u8]],
 ) -> Result<Placed, RecordError>
     requires bound { word_no + 3 + length args.now < 2 ^ 64 }
     requires key { 1 ≤ length args.now }
-    ensures { Gives result (grammar.step_from head word_no word.now (map (λ f. f.now) args.now)) }
+    ensures { Gives result (ycsb.step_from head word_no word.now (map (λ f. f.now) args.now)) }
 {
     let key = number_at(word_no + 1, field(args, 1), 0, u32::MAX)?;
     let act = act_of(alloc, head, word_no, word, &args[1..])?;
@@ -92,10 +98,10 @@ fn step_of(
 }
 
 /// The steps of a transaction's record, which follow its word.
-pub fn steps_of(alloc: Global, head: Head, txn: &[&[u8]]) -> Result<Items<Placed>, RecordError>
+pub fn steps_of(alloc: Global, head: YcsbHead, txn: &[&[u8]]) -> Result<Items<Placed>, RecordError>
     requires word { 1 ≤ length txn.now }
     requires bound { length txn.now < 2 ^ 63 }
-    ensures { Gives result (grammar.steps_from head (length txn.now) 2 (map (λ f. f.now) (drop 1 txn.now))) }
+    ensures { Gives result (ycsb.steps_from head (length txn.now) 2 (map (λ f. f.now) (drop 1 txn.now))) }
 {
     let mut steps = Items::new(alloc);
     let mut at = 1;

@@ -1,28 +1,40 @@
-//! The texts of a row.
+//! Texts of a record.
 ghost use Rattle.std.specs.Prelude.{◌≡◌, ◌+◌, ◌<◌, ◌^◌, map, length};
 ghost use Rattle.workload_text.specs.Gives.{Gives};
-ghost use Rattle.workload_text.specs.Grammar as grammar;
+ghost use Rattle.workload_text.specs.Fields as spelled;
 
 use crate::faults::{FaultKind, RecordError};
-use crate::heads::flaw_error;
+use crate::fields::flaw_error;
 use deneva_base::{ByteList, Cell, CellList, Row};
 use std::alloc::Global;
 
-/// A text of at most 100 bytes, which stands at this field of its record.
-pub fn text_at(alloc: Global, field_no: usize, field: &[u8]) -> Result<ByteList, RecordError>
-    ensures { Gives result (grammar.text_at field_no field.now) }
+/// A text of at most so many bytes, which stands at this field of its record.
+pub fn short_text_at(
+    alloc: Global,
+    field_no: usize,
+    most: usize,
+    field: &[u8],
+) -> Result<ByteList, RecordError>
+    ensures { Gives result (spelled.short_text_at field_no most field.now) }
 {
-    if field.len() > 100 {
+    if field.len() > most {
         return Err(flaw_error(field_no, FaultKind::OutOfRange));
     }
     let text = ByteList::from_bytes(alloc, field)?;
     Ok(text)
 }
 
+/// A text of a row of YCSB.
+pub fn text_at(alloc: Global, field_no: usize, field: &[u8]) -> Result<ByteList, RecordError>
+    ensures { Gives result (spelled.text_at field_no field.now) }
+{
+    short_text_at(alloc, field_no, 100, field)
+}
+
 /// The row of these texts, the first of which stands at this field of its record.
 pub fn texts_from(alloc: Global, field_no: usize, fields: &[&[u8]]) -> Result<Row, RecordError>
     requires { field_no + length fields.now < 2 ^ 64 }
-    ensures { Gives result (grammar.texts_from field_no (map (λ f. f.now) fields.now)) }
+    ensures { Gives result (spelled.texts_from field_no (map (λ f. f.now) fields.now)) }
 {
     let mut cells = CellList::with_capacity(alloc, fields.len())?;
     for (place, field) in fields.iter().enumerate() {
