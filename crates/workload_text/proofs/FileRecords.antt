@@ -32,7 +32,10 @@ use Rattle.workload_text.specs.declared.steps.Placed.{Placed}
 use Rattle.workload_text.specs.Files.{is_short, has_short_keys, AreNumbers, in_order}
 use Rattle.workload_text.specs.Gives.{◌>>=◌}
 use Rattle.records.specs.Records.{Record}
-use Rattle.workload_text.specs.Grammar.{number_at, placed_at, text_at, texts_from, row_of, row_from, width, put_from, act_from, step_from, steps_from, first_unknown, first_repeated, none_at, txn_of, said_by, with_row, read_after, read_on, empty, head_from, read_from_head, workload_from}
+use Rattle.workload_text.specs.Fields.{number_at, placed_at, text_at, texts_from}
+use Rattle.workload_text.specs.Grammar.{said_by, with_row, read_after, read_on, empty, head_from, read_from_head, workload_from}
+use Rattle.workload_text.specs.Loading.{row_of}
+use Rattle.workload_text.specs.Ycsb.{row_from, width, put_from, act_from, step_from, steps_from, first_unknown, first_repeated, none_at, txn_of}
 use Rattle.workload_text.proofs.Decimals.{number_in-decimal}
 use Rattle.workload_text.proofs.Puts.{has_key-put, length-put}
 use Rattle.workload_text.proofs.StepByStep.{stepped}

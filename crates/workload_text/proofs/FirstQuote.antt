@@ -7,7 +7,8 @@ use Rattle.std.proofs.Math.Bool.{or_assoc}
 use Rattle.std.proofs.lemmas.Bool.{eqb-true, true≢false}
 use Rattle.std.proofs.lemmas.Option.{none-some}
 use Rattle.records.specs.Records.{Record, has_quote, fields_of}
-use Rattle.workload_text.specs.Grammar.{quoted_field, quote_from, quote_or, fault}
+use Rattle.workload_text.specs.Fields.{fault}
+use Rattle.workload_text.specs.Grammar.{quoted_field, quote_from, quote_or}
 use Rattle.workload_text.specs.declared.faults.InputFault.{InputFault}
 use Rattle.workload_text.specs.declared.faults.FaultKind.TheVariants.{Kind}
 

@@ -6,10 +6,10 @@ use Rattle.txn_program.specs.declared.programs.Workload.{Workload}
 use Rattle.workload_text.specs.declared.faults.Flaw.{Flaw}
 use Rattle.workload_text.specs.declared.faults.InputFault.{InputFault}
 use Rattle.workload_text.specs.declared.heads.Head.{Head}
-use Rattle.workload_text.specs.declared.reader.Progress.{Progress}
-use Rattle.workload_text.specs.declared.reader.Progress.TheVariants.{More, Ended}
+use Rattle.workload_text.specs.declared.reading.Progress.{Progress}
+use Rattle.workload_text.specs.declared.reading.Progress.TheVariants.{More, Ended}
 use Rattle.workload_text.specs.declared.said.Said.{Said}
-use Rattle.workload_text.specs.declared.said.Said.TheVariants.{Loads, Runs, Ends}
+use Rattle.workload_text.specs.declared.said.Said.TheVariants.{Loads, Sells, Runs, Ends}
 use Rattle.records.specs.Records.{Record, fields_of}
 use Rattle.workload_text.specs.Grammar.{said_by, read_after, read_on, at_end}
 use Rattle.workload_text.specs.Reader.{Advances}
@@ -20,6 +20,7 @@ records lines = map fields_of (map (λ line. line.now) lines)
 added : (n : ℕ) (old new : Workload) (rs : List Record) (rest : Workload → Result Workload InputFault) (s : Result Said Flaw)
     → Advances old new s More → rest new ≡ read_after n old rs rest s
 added n old new rs rest (Ok (Loads r)) e = ap rest e
+added n old new rs rest (Ok (Sells i)) e = ap rest e
 added n old new rs rest (Ok (Runs p)) e = ap rest e
 added n old new rs rest (Ok Ends) e = absurd e
 added n old new rs rest (Err f) e = absurd e
@@ -27,6 +28,7 @@ added n old new rs rest (Err f) e = absurd e
 ended : (n : ℕ) (old new : Workload) (rs : List Record) (rest : Workload → Result Workload InputFault) (s : Result Said Flaw)
     → Advances old new s Ended → at_end new (n + 1) rs ≡ read_after n old rs rest s
 ended n old new rs rest (Ok (Loads r)) e = absurd e
+ended n old new rs rest (Ok (Sells i)) e = absurd e
 ended n old new rs rest (Ok (Runs p)) e = absurd e
 ended n old new rs rest (Ok Ends) e = ap (λ (w : Workload). at_end w (n + 1) rs) e
 ended n old new rs rest (Err f) e = absurd e

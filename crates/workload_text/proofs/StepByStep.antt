@@ -8,10 +8,10 @@ use Rattle.std.proofs.lemmas.Bool.Decides.{nat_tests}
 use Rattle.workload_text.specs.declared.faults.Flaw.{Flaw}
 use Rattle.workload_text.specs.declared.faults.RecordError.{RecordError}
 use Rattle.workload_text.specs.declared.faults.RecordError.TheVariants.{NoMemory, Flawed}
-use Rattle.workload_text.specs.declared.heads.Head.{Head}
+use Rattle.workload_text.specs.declared.heads.YcsbHead.{YcsbHead}
 use Rattle.workload_text.specs.declared.steps.Placed.{Placed}
 use Rattle.workload_text.specs.Gives.{◌>>=◌, Fails}
-use Rattle.workload_text.specs.Grammar.{width, args_of, step_from, steps_from}
+use Rattle.workload_text.specs.Ycsb.{width, args_of, step_from, steps_from}
 
 -- an error that one definition explains is explained by another that fails where that one does
 pub fails_too : {A B : Type 0} (e : RecordError) (read : Result A Flaw) (all : Result B Flaw) → Fails e read → ((f : Flaw) → read ≡ Err f → all ≡ Err f) → Fails e all
@@ -26,7 +26,7 @@ there : (w : ℕ) (more : List (List ℕ)) → w ≤ length more → args_of w m
 there w more h = rw (not_short w (length more) h) refl
 
 -- the steps of fields that begin with this one
-pub stepped : (head : Head) (m n w : ℕ) (fields more args : List (List ℕ)) (word : List ℕ)
+pub stepped : (head : YcsbHead) (m n w : ℕ) (fields more args : List (List ℕ)) (word : List ℕ)
     → fields ≡ word ∷ more → width head word ≡ Some w → w ≤ length more → args ≡ take w more
     → steps_from head (suc m) n fields ≡ (step_from head n word args >>= λ step. steps_from head m (n + 1 + w) (drop w more) >>= λ steps. Ok (step ∷ steps))
 stepped head m n w fields more args word e known h same = rw (e, same, known, there w more h) refl
@@ -37,7 +37,7 @@ regroup (Ok steps) done step = ap (λ (l : List Placed). Ok l) (append_assoc don
 regroup (Err f) done step = refl
 
 -- one step more was read
-pub read_more : (head : Head) (most n w : ℕ) (fields more args : List (List ℕ)) (word : List ℕ) (done : List Placed) (step : Placed) (all : Result (List Placed) Flaw)
+pub read_more : (head : YcsbHead) (most n w : ℕ) (fields more args : List (List ℕ)) (word : List ℕ) (done : List Placed) (step : Placed) (all : Result (List Placed) Flaw)
     → 1 ≤ most → fields ≡ word ∷ more → width head word ≡ Some w → w ≤ length more → args ≡ take w more → step_from head n word args ≡ Ok step
     → (steps_from head most n fields >>= λ rest. Ok (done ++ rest)) ≡ all
     → (steps_from head (most - 1) (n + 1 + w) (drop w more) >>= λ rest. Ok ((done ++ step ∷ []) ++ rest)) ≡ all
@@ -49,7 +49,7 @@ read_more head (suc m) n w fields more args word done step all few e known h sam
     ∙ inv)
 
 -- a step that is at fault is the fault of all
-pub read_fault : (head : Head) (most n w : ℕ) (fields more args : List (List ℕ)) (word : List ℕ) (done : List Placed) (f : Flaw) (all : Result (List Placed) Flaw)
+pub read_fault : (head : YcsbHead) (most n w : ℕ) (fields more args : List (List ℕ)) (word : List ℕ) (done : List Placed) (f : Flaw) (all : Result (List Placed) Flaw)
     → 1 ≤ most → fields ≡ word ∷ more → width head word ≡ Some w → w ≤ length more → args ≡ take w more → step_from head n word args ≡ Err f
     → (steps_from head most n fields >>= λ rest. Ok (done ++ rest)) ≡ all
     → all ≡ Err f
@@ -84,14 +84,14 @@ long_enough : (txn : List (Bor (List ℕ))) (from w : ℕ) → w ≤ length (tak
 long_enough txn from w h = rw (length-map (drop from txn) (λ (f : Bor (List ℕ)). f.now)) (rw (take_rest txn from) at h)
 
 -- what is known where a step's word was read
-pub record AtStep (head : Head) (most at w : ℕ) (txn : List (Bor (List ℕ))) (d : Bor (List ℕ)) (done : List Placed) : Type 0 where
+pub record AtStep (head : YcsbHead) (most at w : ℕ) (txn : List (Bor (List ℕ))) (d : Bor (List ℕ)) (done : List Placed) : Type 0 where
   pub inside : at < length txn
   pub turns : length txn ≤ most + at
   pub known : Some w ≡ width head (get_or txn at d).now
   pub long : w ≤ length (take (length txn - (at + 1)) (drop (at + 1) txn))
   pub so_far : (steps_from head most (at + 1) (seen (drop at txn)) >>= λ rest. Ok (done ++ rest)) ≡ steps_from head (length txn) 2 (seen (drop 1 txn))
 
-pub step_read : (head : Head) (most at w : ℕ) (txn : List (Bor (List ℕ))) (d : Bor (List ℕ)) (done next : List Placed) (step : Placed)
+pub step_read : (head : YcsbHead) (most at w : ℕ) (txn : List (Bor (List ℕ))) (d : Bor (List ℕ)) (done next : List Placed) (step : Placed)
     → AtStep head most at w txn d done → next ≡ done ++ step ∷ []
     → step_from head (at + 1) (get_or txn at d).now (seen (take w (take (length txn - (at + 1)) (drop (at + 1) txn)))) ≡ Ok step
     → (steps_from head (most - 1) (at + (1 + w) + 1) (seen (drop (at + (1 + w)) txn)) >>= λ rest. Ok (next ++ rest)) ≡ steps_from head (length txn) 2 (seen (drop 1 txn))
@@ -101,7 +101,7 @@ step_read head most at w txn d done next step h more ok =
     (read_more head most (at + 1) w (seen (drop at txn)) (seen (drop (at + 1) txn)) _ _ done step _ (omega (arith, h.inside, h.turns))
     (seen_at txn at d h.inside) (sym h.known) (long_enough txn (at + 1) w h.long) (seen_args txn (at + 1) w) ok h.so_far)
 
-pub step_failed : (head : Head) (most at w : ℕ) (txn : List (Bor (List ℕ))) (d : Bor (List ℕ)) (done : List Placed) (f : Flaw)
+pub step_failed : (head : YcsbHead) (most at w : ℕ) (txn : List (Bor (List ℕ))) (d : Bor (List ℕ)) (done : List Placed) (f : Flaw)
     → AtStep head most at w txn d done
     → step_from head (at + 1) (get_or txn at d).now (seen (take w (take (length txn - (at + 1)) (drop (at + 1) txn)))) ≡ Err f
     → steps_from head (length txn) 2 (seen (drop 1 txn)) ≡ Err f

@@ -34,7 +34,9 @@ use Rattle.workload_text.specs.Files.{IsRising}
 use Rattle.workload_text.specs.Gives.{◌>>=◌}
 use Rattle.workload_text.specs.Numbers.{number_in, is_number, value_of}
 use Rattle.records.specs.Records.{Record, records_of}
-use Rattle.workload_text.specs.Grammar.{field_at, placed_at, number_at, text_at, texts_from, format_of, head_of_format, head_from, row_from, width, width_of_put, put_from, act_from, step_from, word_at, args_of, steps_from, first_unknown, first_repeated, none_at, txn_of, end_from, said_by, with_row, with_program, at_end, read_after, read_on, empty, read_from_head, workload_from, quote_from, unless_quoted, workload_of}
+use Rattle.workload_text.specs.Fields.{field_at, placed_at, number_at, text_at, texts_from}
+use Rattle.workload_text.specs.Grammar.{format_of, head_of_format, head_from, end_from, said_by, with_row, with_program, at_end, read_after, read_on, empty, read_from_head, workload_from, quote_from, unless_quoted, workload_of}
+use Rattle.workload_text.specs.Ycsb.{row_from, width, width_of_put, put_from, act_from, step_from, word_at, args_of, steps_from, first_unknown, first_repeated, none_at, txn_of}
 use Rattle.workload_text.proofs.Bound.{bound, passed, held, either_gave, same_ok}
 use Rattle.workload_text.proofs.Plain.{is_plain_record, records_are_plain}
 use Rattle.workload_text.proofs.Puts.{list_all-put, keys_rise-put, length-put}

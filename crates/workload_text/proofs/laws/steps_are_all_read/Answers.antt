@@ -1,10 +1,10 @@
 use Rattle.std.proofs.Common.{◌≡◌, ℕ, zero, suc, ◌+◌, ◌≤◌, List, [], ◌∷◌, length, drop, Ok, refl, arith, length-drop}
 use Rattle.workload_text.specs.Gives.{◌>>=◌}
-use Rattle.workload_text.specs.Grammar.{steps_from, word_at, width, args_of, step_from}
-use Rattle.workload_text.specs.declared.heads.Head.{Head}
+use Rattle.workload_text.specs.Ycsb.{steps_from, word_at, width, args_of, step_from}
+use Rattle.workload_text.specs.declared.heads.YcsbHead.{YcsbHead}
 use Rattle.workload_text.proofs.laws.steps_are_all_read.Goals as goal
 
-same : (head : Head) (most other n : ℕ) (fields : List (List ℕ)) → length fields ≤ most → length fields ≤ other → steps_from head most n fields ≡ steps_from head other n fields
+same : (head : YcsbHead) (most other n : ℕ) (fields : List (List ℕ)) → length fields ≤ most → length fields ≤ other → steps_from head most n fields ≡ steps_from head other n fields
 same head most other n [] a b = refl
 same head zero other n (word ∷ more) a b = absurd (omega (arith, a))
 same head (suc m) zero n (word ∷ more) a b = absurd (omega (arith, b))

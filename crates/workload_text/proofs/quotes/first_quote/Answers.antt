@@ -2,7 +2,8 @@ use Rattle.std.proofs.Common.{◌≡◌, ◌-◌, ◌<◌, [], length, Some, map
 use Rattle.std.specs.Option.{option_map}
 use Rattle.std.proofs.lemmas.List.{get_or-map}
 use Rattle.records.specs.Records.{fields_of}
-use Rattle.workload_text.specs.Grammar.{quoted_field, fault}
+use Rattle.workload_text.specs.Fields.{fault}
+use Rattle.workload_text.specs.Grammar.{quoted_field}
 use Rattle.workload_text.specs.declared.faults.FaultKind.TheVariants.{Kind}
 use Rattle.workload_text.proofs.FirstQuote.{quote_none, quote_at, fault_in}
 use Rattle.workload_text.proofs.quotes.first_quote.Goals as goal

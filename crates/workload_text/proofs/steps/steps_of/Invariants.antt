@@ -1,6 +1,6 @@
 use Rattle.std.proofs.Common.{◌≡◌, ℕ, ◌+◌, ◌-◌, ◌≤◌, ◌++◌, map, drop, length, Ok}
 use Rattle.workload_text.specs.Gives.{◌>>=◌}
-use Rattle.workload_text.specs.Grammar.{steps_from}
+use Rattle.workload_text.specs.Ycsb.{steps_from}
 use Rattle.workload_text.proofs.steps.steps_of.Given as goal
 
 -- the steps so far, and those of the fields that are left, with most turns enough for these

@@ -1,6 +1,6 @@
 use Rattle.std.proofs.Common.{◌≡◌, ◌+◌, ◌++◌, map, drop, Ok}
 use Rattle.workload_text.specs.Gives.{◌>>=◌}
-use Rattle.workload_text.specs.Grammar.{texts_from}
+use Rattle.workload_text.specs.Fields.{texts_from}
 use Rattle.workload_text.proofs.texts.texts_from.Given as goal
 
 -- the cells so far, and those of the texts that are left

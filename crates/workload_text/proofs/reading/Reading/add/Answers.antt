@@ -3,7 +3,7 @@ use Rattle.deneva_base.specs.Rows.{rows_in}
 use Rattle.deneva_base.specs.declared.rows.Keyed.{Keyed}
 use Rattle.deneva_base.proofs.Entries.{put-entries}
 use Rattle.txn_program.specs.declared.programs.WorkKind.TheVariants.{Ycsb}
-use Rattle.workload_text.proofs.reader.Reading.add.Goals as goal
+use Rattle.workload_text.proofs.reading.Reading.add.Goals as goal
 
 pub returns-in_ok-insert-in-Loads-clause-work : goal.returns-in_ok-insert-in-Loads-clause-work
 returns-in_ok-insert-in-Loads-clause-work c =

@@ -2,9 +2,9 @@ use Rattle.std.proofs.Common.{◌≡◌, ◌∙◌, ℕ, ◌+◌, ◌<◌, List,
 use Rattle.std.specs.List.{list_any}
 use Rattle.std.specs.Ordering.{nat_cmp, is_eq}
 use Rattle.std.proofs.lemmas.Bool.Decides.{nat_tests}
-use Rattle.workload_text.specs.Grammar.{first_repeated}
+use Rattle.workload_text.specs.Ycsb.{first_repeated}
 use Rattle.workload_text.specs.declared.steps.Placed.{Placed}
-use Rattle.workload_text.proofs.reader.first_repeated.Goals as goal
+use Rattle.workload_text.proofs.ycsb_records.first_repeated.Goals as goal
 
 next : (steps : List Placed) (i : ℕ) (p : Placed) → i < length steps → p ≡ get_or steps i p → drop i steps ≡ p ∷ drop (i + 1) steps
 next steps i p h is =

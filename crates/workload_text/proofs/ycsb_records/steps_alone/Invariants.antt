@@ -1,5 +1,5 @@
 use Rattle.std.proofs.Common.{◌≡◌, ◌++◌, map}
-use Rattle.workload_text.proofs.reader.steps_alone.Given as goal
+use Rattle.workload_text.proofs.ycsb_records.steps_alone.Given as goal
 
 -- the steps so far and those that are left
 abbrev pub invariant-loop-one : goal.invariant-loop-one

@@ -3,7 +3,7 @@ use denote.Ref.{Bor}
 use Rattle.std.proofs.lemmas.List.{length-map}
 use Rattle.std.proofs.lemmas.List.Splits.{length-slice_split}
 use Rattle.records.specs.Records.{fields_of}
-use Rattle.workload_text.proofs.reader.Reading.read.Goals as goal
+use Rattle.workload_text.proofs.reader.read_line.Goals as goal
 
 -- a line has at least one field
 some_field : (fields : List (Bor (List ℕ))) (line : List ℕ) → map (λ f. f.now) fields ≡ fields_of line → 1 ≤ length fields
