@@ -18,6 +18,6 @@ one_read a = Ycsb (record { key = a; act = Read } ∷ [])
 -- ten transactions that read one row each: the third that of key 0, and the others that of key 1
 abbrev pub ten_reads : Workload
 ten_reads = record {
-  load = record { kind = kind.Ycsb; fields = 1; rows = one_field 0 ∷ one_field 1 ∷ [] };
+  load = record { kind = kind.Ycsb; fields = 1; rows = one_field 0 ∷ one_field 1 ∷ []; items = [] };
   programs = map one_read (1 ∷ 1 ∷ 0 ∷ 1 ∷ 1 ∷ 1 ∷ 1 ∷ 1 ∷ 1 ∷ 1 ∷ []);
 }

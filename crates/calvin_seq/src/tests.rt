@@ -10,7 +10,7 @@ use deneva_base::{
 use server_core::{Mail, Msg, Outbox, Role};
 use std::alloc::Global;
 use std::test::Fail;
-use txn_program::{Load, Program, ProgramList, StepList, WorkKind, Workload, YcsbAct, YcsbStep};
+use txn_program::{ItemList, Load, Program, ProgramList, StepList, WorkKind, Workload, YcsbAct, YcsbStep};
 
 /// The key of each transaction, whose home is the key itself.
 const KEYS: [u32; 10] = [1, 1, 0, 1, 1, 1, 1, 1, 1, 1];
@@ -67,6 +67,7 @@ fn ten_reads_of(alloc: Global) -> Result<Workload, NoMemory>
         kind: WorkKind::Ycsb,
         fields: 1,
         rows,
+        items: ItemList::new(alloc),
     };
     let programs = programs_of(alloc, &KEYS)?;
     Ok(Workload { load, programs })

@@ -19,7 +19,7 @@ one_read a = Ycsb (record { key = a; act = Read } ∷ [])
 
 -- two transactions that read one row each
 abbrev pub two_reads : ℕ → ℕ → Workload
-two_reads a b = record { load = record { kind = kind.Ycsb; fields = 1; rows = one_field a ∷ one_field b ∷ [] }; programs = one_read a ∷ one_read b ∷ [] }
+two_reads a b = record { load = record { kind = kind.Ycsb; fields = 1; rows = one_field a ∷ one_field b ∷ []; items = [] }; programs = one_read a ∷ one_read b ∷ [] }
 
 -- each of these fits those before it
 unfoldable pub FitInTurn : Role → List Msg → List Msg → Type 0

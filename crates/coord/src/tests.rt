@@ -12,7 +12,9 @@ use deneva_base::{
 use server_core::{Mail, Msg, Outbox};
 use std::alloc::Global;
 use std::test::Fail;
-use txn_program::{Load, Program, ProgramList, StepList, WorkKind, Workload, YcsbAct, YcsbStep};
+use txn_program::{
+    ItemList, Load, Program, ProgramList, StepList, WorkKind, Workload, YcsbAct, YcsbStep,
+};
 
 const KEY: Key = Key {
     table: 0,
@@ -70,6 +72,7 @@ fn two_reads_of(alloc: Global, a: u32, b: u32) -> Result<Workload, NoMemory>
         kind: WorkKind::Ycsb,
         fields: 1,
         rows,
+        items: ItemList::new(alloc),
     };
     Ok(Workload { load, programs })
 }

@@ -25,7 +25,7 @@ trial_step n = record { key = n; act = Update (record { field = 0; text = 120 �
 
 abbrev pub trial_work : Workload
 trial_work = record {
-  load = record { kind = kinds.Ycsb; fields = 1; rows = trial_row 0 ∷ trial_row 1 ∷ trial_row 2 ∷ [] };
+  load = record { kind = kinds.Ycsb; fields = 1; rows = trial_row 0 ∷ trial_row 1 ∷ trial_row 2 ∷ []; items = [] };
   programs = Ycsb (map trial_step (0 ∷ 1 ∷ 2 ∷ [])) ∷ Ycsb (map trial_step (1 ∷ 0 ∷ [])) ∷ Ycsb (map trial_step (2 ∷ [])) ∷ [];
 }
 

@@ -8,10 +8,7 @@ use deneva_base::{
 use server_core::{AbortLine, Entry, Giveup, History, Msg, SentRows};
 use std::alloc::Global;
 use std::test::Fail;
-use txn_program::{
-    Load, Program, ProgramList, StepList, WorkKind, Workload, YcsbAct, YcsbPut, YcsbStep, valid,
-    ycsb_key_of,
-};
+use txn_program::{ItemList, Load, Program, ProgramList, StepList, WorkKind, Workload, YcsbAct, YcsbPut, YcsbStep, valid, ycsb_key_of};
 
 fn keyed_of(alloc: Global, key: u32, letter: u8) -> Result<Keyed, NoMemory> {
     let mut cells = CellList::new(alloc);
@@ -62,6 +59,7 @@ fn work_of(alloc: Global, transactions: &[&[Step]]) -> Result<Workload, NoMemory
         kind: WorkKind::Ycsb,
         fields: 1,
         rows,
+        items: ItemList::new(alloc),
     };
     Ok(Workload { load, programs })
 }

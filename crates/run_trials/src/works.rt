@@ -3,10 +3,7 @@
 use deneva_base::{ByteList, Cell, CellList, Keyed, Row, RowList};
 use std::alloc::Global;
 use std::test::Fail;
-use txn_program::{
-    Load, Program, ProgramList, StepList, WorkKind, Workload, YcsbAct, YcsbPut, YcsbStep,
-    ycsb_key_of,
-};
+use txn_program::{ItemList, Load, Program, ProgramList, StepList, WorkKind, Workload, YcsbAct, YcsbPut, YcsbStep, ycsb_key_of};
 
 /// A step of a transaction.
 #[derive(Clone, Copy)]
@@ -38,6 +35,7 @@ fn load(alloc: Global, letters: &[(u32, u8)]) -> Result<Load, Fail> {
         kind: WorkKind::Ycsb,
         fields: 1,
         rows,
+        items: ItemList::new(alloc),
     })
 }
 

@@ -7,10 +7,7 @@ use deneva_base::{
 };
 use std::alloc::Global;
 use std::test::Fail;
-use txn_program::{
-    Load, Program, ProgramList, StepList, Verdict, WorkKind, Workload, YcsbAct, YcsbStep, valid,
-    ycsb_key_of,
-};
+use txn_program::{ItemList, Load, Program, ProgramList, StepList, Verdict, WorkKind, Workload, YcsbAct, YcsbStep, valid, ycsb_key_of};
 
 const WHO: Attempt = Attempt {
     txn: TxnId(3),
@@ -182,6 +179,7 @@ fn work_over(alloc: Global, keys: &[u32]) -> Result<Workload, Fail> {
         kind: WorkKind::Ycsb,
         fields: 1,
         rows,
+        items: ItemList::new(alloc),
     };
     Ok(Workload { load, programs })
 }

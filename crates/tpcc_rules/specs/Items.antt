@@ -8,13 +8,13 @@ abbrev pub item_numbered : List Item → ℕ → Option Item
 item_numbered items number = find (λ i. i.number == number) items
 
 -- some item has this number
-abbrev pub is_item : List Item → ℕ → Bool
-is_item items number = list_any (λ i. i.number == number) items
+abbrev pub has_item : List Item → ℕ → Bool
+has_item items number = list_any (λ i. i.number == number) items
 
 -- no two items have one number
 abbrev pub have_own_numbers : List Item → Bool
 have_own_numbers [] = true
-have_own_numbers (i ∷ items) = not (is_item items i.number) && have_own_numbers items
+have_own_numbers (i ∷ items) = not (has_item items i.number) && have_own_numbers items
 
 -- the number is below that of the first item, and each item's number is below the next one's
 abbrev pub rise_after : ℕ → List Item → Bool

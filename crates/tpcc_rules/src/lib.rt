@@ -9,19 +9,20 @@ mod payments;
 mod programs;
 mod read_rows;
 mod stand_in;
+mod tables;
 
-pub use cells::{
-    is_district_row, is_warehouse_row, number_at, raised_copy, text_at, warehouse_copy,
-};
-pub use columns::Column;
+pub use cells::{number_at, raised_copy, raised_row, text_at};
+pub use columns::{Column, fits_all};
 use deneva_base::Items;
 pub use effects::{Effect, Reason, Verdict};
 pub use items::ItemList;
 pub use payments::payment_effect;
 pub use programs::{Item, Line, NewOrder, Payment};
 pub use read_rows::{ReadRow, cells_of, row_among, rows_lying};
-pub use stand_in::{
-    customer_key, district_key, new_order_effect, stock_key, stock_keys, warehouse_key,
+pub use stand_in::{new_order_effect, stock_keys};
+pub use tables::{
+    columns_of, customer_key, district_key, history_key, is_loaded_row, is_table_row, line_key,
+    loaded_columns_of, new_order_key, order_key, stock_key, warehouse_key,
 };
 
 /// The lines of a new order.

@@ -7,12 +7,12 @@ ghost use Rattle.tpcc_rules.specs.ReadRows.{as_read};
 ghost use Rattle.tpcc_rules.specs.Effects as effects;
 ghost use Rattle.tpcc_rules.specs.Tables as tables;
 
-use crate::cells::{
-    district_copy, is_customer_row, lowered_copy, number_at, raised_copy, text_at, warehouse_copy,
-};
+use crate::cells::{lowered_copy, number_at, raised_copy, raised_row, text_at};
+use crate::columns::fits_all;
 use crate::effects::{Effect, Reason, Verdict};
 use crate::programs::Payment;
 use crate::read_rows::{ReadRow, cells_of};
+use crate::tables::{columns_of, customer_key, district_key, history_key, warehouse_key};
 use deneva_base::{ByteList, Cell, CellList, Key, Keyed, NoMemory, Row, RowList, TxnId};
 use itoa::{Buffer, Integer};
 use std::alloc::Global;
@@ -89,7 +89,7 @@ pub fn customer_copy(
         return Ok(None);
     };
     let cells = noted_cells(alloc, p, cells)?;
-    if is_customer_row(cells.as_slice()) {
+    if fits_all(columns_of(3), cells.as_slice()) {
         Ok(Some(cells))
     } else {
         Ok(None)
@@ -134,39 +134,6 @@ fn rolled_back(alloc: Global, reason: Reason) -> Effect
     }
 }
 
-fn warehouse_key_of(w: u32) -> Key
-    ensures { result ≡ tables.warehouse_key w }
-{
-    Key {
-        table: 1,
-        a: w,
-        b: 0,
-        c: 0,
-    }
-}
-
-fn district_key_of(w: u32, d: u32) -> Key
-    ensures { result ≡ tables.district_key w d }
-{
-    Key {
-        table: 2,
-        a: w,
-        b: d,
-        c: 0,
-    }
-}
-
-fn customer_key_of(w: u32, d: u32, c: u32) -> Key
-    ensures { result ≡ tables.customer_key w d c }
-{
-    Key {
-        table: 3,
-        a: w,
-        b: d,
-        c,
-    }
-}
-
 /// A row with its key.
 fn keyed(alloc: Global, key: Key, cells: CellList) -> Result<Keyed, NoMemory>
     ensures { IfOk result (λ r. r ≡ record { key = key; row = cells }) }
@@ -184,15 +151,15 @@ pub fn payment_effect(
 ) -> Result<Effect, NoMemory>
     ensures { IfOk result (λ e. e ≡ payment id p.now (map as_read rows.now)) }
 {
-    let at_warehouse = warehouse_key_of(p.w);
-    let at_district = district_key_of(p.w, p.d);
-    let at_customer = customer_key_of(p.cw, p.cd, p.c);
+    let at_warehouse = warehouse_key(p.w);
+    let at_district = district_key(p.w, p.d);
+    let at_customer = customer_key(p.cw, p.cd, p.c);
     let warehouse = cells_of(rows, at_warehouse);
     let district = cells_of(rows, at_district);
-    let Some(new_warehouse) = warehouse_copy(alloc, warehouse, p.amount)? else {
+    let Some(new_warehouse) = raised_row(alloc, 1, warehouse, 2, p.amount)? else {
         return Ok(rolled_back(alloc, Reason::Range { key: at_warehouse }));
     };
-    let Some(new_district) = district_copy(alloc, district, p.amount)? else {
+    let Some(new_district) = raised_row(alloc, 2, district, 2, p.amount)? else {
         return Ok(rolled_back(alloc, Reason::Range { key: at_district }));
     };
     let Some(new_customer) = customer_copy(alloc, p, cells_of(rows, at_customer))? else {
@@ -207,12 +174,7 @@ pub fn payment_effect(
     ]?;
     let appends = vec![in alloc;
         Keyed {
-            key: Key {
-                table: 5,
-                a: p.w,
-                b: id.0,
-                c: 0
-            },
+            key: history_key(p.w, id.0),
             row: history
         },
     ]?;

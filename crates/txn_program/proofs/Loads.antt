@@ -11,7 +11,7 @@ use Rattle.deneva_base.specs.declared.rows.Keyed.{Keyed}
 use Rattle.tpcc_rules.specs.Columns.{number_64, fits, fits_all}
 use Rattle.tpcc_rules.specs.declared.columns.Column.{Column}
 use Rattle.tpcc_rules.specs.declared.columns.Column.TheVariants.{Between, UpTo}
-use Rattle.tpcc_rules.specs.Tables.{columns, loaded_columns, is_table_row, rate}
+use Rattle.tpcc_rules.specs.Tables.{columns, loaded_columns, is_loaded_row, is_table_row, rate}
 use Rattle.txn_program.specs.declared.programs.Load.{Load}
 use Rattle.txn_program.specs.declared.programs.WorkKind.{WorkKind}
 use Rattle.txn_program.specs.declared.programs.WorkKind.TheVariants.{Ycsb, Tpcc}
@@ -106,7 +106,7 @@ module _ (load : Load) where
     is_tpcc_row,
     (and_parts _ _ (and_parts _ _ (and_parts _ _ (and_parts _ _ h).0).0).0).1,
     λ r v.
-        let p = and_parts (is_tpcc_key r.key) (fits_all (loaded_columns r.key.table) r.row) (and_parts _ _ v).0 in
+        let p = and_parts (is_tpcc_key r.key) (is_loaded_row r.key r.row) (and_parts _ _ v).0 in
         let t = tpcc_table r.key p.0 in
         (table_row_fits load r.key r.row t.0 (omega (arith, t.1)) (columns_widen r.key.table r.row p.1), t.1),
   )

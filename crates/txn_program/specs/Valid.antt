@@ -7,10 +7,9 @@ use Rattle.deneva_base.specs.declared.keys.Key.{Key}
 use Rattle.deneva_base.specs.declared.rows.Cell.{Cell}
 use Rattle.deneva_base.specs.declared.rows.Cell.TheVariants.{Num, Text}
 use Rattle.deneva_base.specs.declared.rows.Keyed.{Keyed}
-use Rattle.tpcc_rules.specs.Columns.{fits_all}
 use Rattle.tpcc_rules.specs.Items.{have_own_numbers}
 use Rattle.tpcc_rules.specs.NewOrders.{is_loaded, stock_of}
-use Rattle.tpcc_rules.specs.Tables.{loaded_columns, warehouse_key, district_key, customer_key}
+use Rattle.tpcc_rules.specs.Tables.{is_loaded_row, warehouse_key, district_key, customer_key}
 use Rattle.tpcc_rules.specs.declared.programs.Item.{Item}
 use Rattle.tpcc_rules.specs.declared.programs.Line.{Line}
 use Rattle.tpcc_rules.specs.declared.programs.NewOrder as orders
@@ -96,7 +95,7 @@ is_plain_cell (Num n) = true
 is_plain_cell (Text text) = list_all is_plain text
 
 abbrev pub is_tpcc_row : Keyed → Bool
-is_tpcc_row r = is_tpcc_key r.key && fits_all (loaded_columns r.key.table) r.row && list_all is_plain_cell r.row
+is_tpcc_row r = is_tpcc_key r.key && is_loaded_row r.key r.row && list_all is_plain_cell r.row
 
 -- prices are in cents
 abbrev pub is_valid_item : Item → Bool

@@ -78,9 +78,7 @@ fn payment_accesses(alloc: Global, payment: &Payment) -> Result<AccessList, NoMe
     let mut list = AccessList::new(alloc);
     list.push(updates_key(warehouse_key(payment.w)))?;
     list.push(updates_key(district_key(payment.w, payment.d)))?;
-    list.push(updates_key(customer_key(
-        payment.cw, payment.cd, payment.c,
-    )))?;
+    list.push(updates_key(customer_key(payment.cw, payment.cd, payment.c)))?;
     Ok(list)
 }
 

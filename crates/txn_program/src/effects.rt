@@ -1,6 +1,7 @@
 //! What a transaction makes of the rows that it reads.
-ghost use Rattle.std.specs.Prelude.{◌≡◌, ◌≤◌, IfOk, IfSome, List, map, slice_set};
-ghost use Rattle.std.specs.List.{filter_map};
+ghost use Rattle.std.specs.Prelude.{◌≡◌, ◌≤◌, ◌==◌, IfOk, IfSome, List, map, slice_set};
+ghost use Rattle.std.specs.List.{filter, filter_map};
+ghost use Rattle.deneva_base.specs.Partitions as base;
 ghost use Rattle.deneva_base.specs.Rows.{row_at};
 ghost use Rattle.deneva_base.specs.declared.rows.Cell.TheVariants.{Text};
 ghost use Rattle.deneva_base.specs.declared.rows.Keyed as keyed;
@@ -10,7 +11,9 @@ ghost use Rattle.txn_program.specs.Transactions.{effect, effect_within, rows_wit
 use crate::accesses::ycsb_key_of;
 use crate::partitions::{Partition, is_within};
 use crate::programs::{Load, Program, YcsbAct, YcsbPut, YcsbStep};
-use deneva_base::{ByteList, Cell, CellList, Key, Keyed, NoMemory, Row, RowList, TxnId, partition_of};
+use deneva_base::{
+    ByteList, Cell, CellList, Key, Keyed, NoMemory, Row, RowList, TxnId, partition_of,
+};
 use std::alloc::Global;
 use tpcc_rules::{
     Effect, ReadRow, Verdict, cells_of, new_order_effect, payment_effect, rows_lying,
@@ -65,17 +68,24 @@ fn ycsb_writes(
     Ok(writes)
 }
 
-/// Those of the rows that lie at the partition, and without one all of them.
+/// Those of the rows that lie at the partition.
+fn lying_at(partition: Partition, mut rows: Vec<Keyed>) -> Vec<Keyed>
+    requires { 1 ≤ partition.parts }
+    ensures { result.items ≡ filter (λ r. base.partition_of r.key partition.parts == partition.part) rows.items }
+{
+    rows.retain(|keyed| partition_of(keyed.key, partition.parts) == partition.part);
+    rows
+}
+
+/// The same, and without a partition all of the rows.
 fn kept_rows(rows: RowList, made: Option<Partition>) -> RowList
     requires parts { IfSome made (λ p. 1 ≤ p.parts) }
     ensures { result ≡ rows_within made rows }
 {
-    let Some(partition) = made else {
-        return rows;
-    };
-    let mut rows = rows.into_vec();
-    rows.retain(|keyed| partition_of(keyed.key, partition.parts) == partition.part);
-    RowList::of(rows)
+    match made {
+        Some(partition) => RowList::of(lying_at(partition, rows.into_vec())),
+        None => rows,
+    }
 }
 
 /// What of an effect lies at the partition, and without one all of it.

@@ -10,6 +10,8 @@ mod serial;
 #[cfg(test)]
 mod tests;
 mod threads;
+#[cfg(test)]
+mod tpcc_tests;
 mod tpcc_validity;
 mod validity;
 

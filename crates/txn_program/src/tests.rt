@@ -44,6 +44,7 @@ fn load_of(
         kind: WorkKind::Ycsb,
         fields,
         rows,
+        items: ItemList::new(alloc),
     })
 }
 

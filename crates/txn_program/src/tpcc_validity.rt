@@ -6,7 +6,7 @@ ghost use Rattle.txn_program.specs.Valid as valid;
 
 use crate::validity::all_plain;
 use deneva_base::{Cell, Key, Keyed};
-use tpcc_rules::{Item, Line};
+use tpcc_rules::{Item, Line, is_loaded_row};
 
 fn is_between(low: u32, high: u32, number: u32) -> bool
     ensures { result ≡ valid.is_between low high number }
@@ -71,7 +71,7 @@ fn fits_row(keyed: &Keyed) -> bool
     ensures { result ≡ valid.is_tpcc_row keyed.now }
 {
     let row = keyed.row.as_slice();
-    is_tpcc_key(keyed.key) && are_plain_cells(row)
+    is_tpcc_key(keyed.key) && is_loaded_row(keyed.key, row) && are_plain_cells(row)
 }
 
 /// Whether each row is one that a load of TPC-C may have.

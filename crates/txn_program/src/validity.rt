@@ -13,9 +13,7 @@ use crate::accesses::ycsb_key_of;
 use crate::programs::{Load, Program, WorkKind, Workload, YcsbAct, YcsbStep};
 use crate::tpcc_validity::{fit_items, fit_rows, fits_numbers};
 use deneva_base::{Cell, Key, Keyed};
-use tpcc_rules::{
-    Line, NewOrder, Payment, customer_key, district_key, stock_key, warehouse_key,
-};
+use tpcc_rules::{Line, NewOrder, Payment, customer_key, district_key, stock_key, warehouse_key};
 
 /// Whether each byte of a text stands for itself in a field of a file.
 pub(crate) fn all_plain(text: &[u8]) -> bool
@@ -205,6 +203,7 @@ impl<'a> LoadView<'a> {
             && (rows.len() <= 1_000_000 && fit_rows(rows) && self.are_rows_apart())
             && items.len() <= 100_000
             && fit_items(items.as_slice())
+            && items.has_own_numbers()
     }
 
     /// Whether the load is valid.

@@ -31,7 +31,7 @@ abbrev pub txn : List YcsbStep → Program
 txn steps = program.Ycsb steps
 
 abbrev pub workload : List Keyed → List Program → Workload
-workload rows programs = record { load = record { kind = kind.Ycsb; fields = 1; rows = rows }; programs = programs }
+workload rows programs = record { load = record { kind = kind.Ycsb; fields = 1; rows = rows; items = [] }; programs = programs }
 
 -- so many partitions, with 8 attempts and 16 open transactions of a node
 abbrev pub over : Protocol → ℕ → Config

@@ -313,7 +313,7 @@ has_key-put_all rows (r ∷ more) k =
 
 -- the load in key order
 abbrev pub ordered : Load → Load
-ordered load = record { kind = kinds.Ycsb; fields = load.fields; rows = in_key_order load.rows }
+ordered load = record { kind = kinds.Ycsb; fields = load.fields; rows = in_key_order load.rows; items = [] }
 
 steps_ordered : (load : Load) (steps : List YcsbStep) → list_all (is_valid_step (ordered load)) steps ≡ list_all (is_valid_step load) steps
 steps_ordered load [] = refl
@@ -375,7 +375,7 @@ workload_back work valid short =
     ap (λ h. read_from_head h (map row_record work.load.rows ++ after)) (head_back work.load.fields p.some p.few)
     ∙ rows_back head 2 work.load.rows after (empty head) out refl p.rows keys.0 p.apart (all_new work.load.rows) (rows_fit work p)
     (λ m. programs_back (ordered work.load) m [] work.programs work.programs end_records out p.few (programs_ordered work.load work.programs p.programs) keys.1 (programs_fit work p) refl (λ k. refl))
-    ∙ ap (λ (kind : WorkKind). Ok (record { load = record { kind = kind; fields = work.load.fields; rows = in_key_order work.load.rows }; programs = work.programs })) (kind_is work.load.kind)
+    ∙ ap (λ (kind : WorkKind). Ok (record { load = record { kind = kind; fields = work.load.fields; rows = in_key_order work.load.rows; items = [] }; programs = work.programs })) (kind_is work.load.kind)
   where
     rows_fit : (work : Workload) → Parts work → 0 + length work.load.rows ≤ 1000000
     rows_fit work p = let h : length work.load.rows ≤ 1000000 = p.room in omega arith

@@ -10,4 +10,4 @@ returns-in_ok-insert-in-Loads-clause-work c =
     let keyed = c.in-Loads.keyed in
     let self = c.args.self.now in
     let rows = ap rows_in c.in_ok-insert-in-Loads.ensures.entries ∙ sym (put-entries self.rows.entries keyed.key keyed.row) in
-    rw c.in-Loads.is (ap (λ (rs : List Keyed). record { load = record { kind = Ycsb; fields = self.head.fields; rows = rs }; programs = self.programs }) rows)
+    rw c.in-Loads.is (ap (λ (rs : List Keyed). record { load = record { kind = Ycsb; fields = self.head.fields; rows = rs; items = [] }; programs = self.programs }) rows)

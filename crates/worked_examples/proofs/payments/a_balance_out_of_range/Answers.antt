@@ -1,0 +1,8 @@
+-- Computed.
+use Rattle.std.proofs.Common.{refl}
+use Rattle.std.specs.Fmt.{digits}
+use Rattle.worked_examples.proofs.payments.a_balance_out_of_range.Goals as goal
+
+pub returns : goal.returns
+unfolding digits
+returns c = record { valid = refl; no_wait = refl; calvin = refl }
