@@ -5,6 +5,8 @@ mod cells;
 mod columns;
 mod effects;
 mod items;
+#[cfg(test)]
+mod payment_tests;
 mod payments;
 mod programs;
 mod read_rows;
