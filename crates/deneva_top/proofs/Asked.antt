@@ -11,14 +11,14 @@ use Rattle.deneva_base.specs.declared.config.Protocol.{Protocol}
 use Rattle.server_core.specs.Configs.{IsConfig}
 use Rattle.server_core.specs.declared.schedules.Schedule.{Schedule}
 use Rattle.server_core.specs.declared.schedules.Schedule.TheVariants.{Fifo}
-use Rattle.deneva_top.specs.Numbers.{is_number, value_of}
+use Rattle.workload_text.specs.Numbers.{is_number, value_of}
 use Rattle.deneva_top.specs.Options.{Given, read_or, value_at, options_of}
 use Rattle.deneva_base.specs.ProtocolWords.{protocol_of}
 use Rattle.deneva_top.specs.Words.{number, schedule_of, config_of, replay_of, replay_options, command_of}
 use Rattle.deneva_top.specs.declared.words.Command.{Command}
 use Rattle.deneva_top.specs.declared.words.Command.TheVariants.{Serial, Replay}
-use Rattle.deneva_top.specs.declared.workload_text.faults.FaultKind.{FaultKind}
-use Rattle.deneva_top.specs.declared.workload_text.faults.FaultKind.TheVariants.{NotANumber, OutOfRange}
+use Rattle.workload_text.specs.declared.faults.FaultKind.{FaultKind}
+use Rattle.workload_text.specs.declared.faults.FaultKind.TheVariants.{NotANumber, OutOfRange}
 
 -- a number that is read lies between its limits
 number-between : (low high : ℕ) (word : List ℕ) (n : ℕ) → number low high word ≡ Some n → (low ≤ n) × (n ≤ high)

@@ -6,12 +6,12 @@ use Rattle.txn_program.specs.Serial.{serial, all_ids}
 use Rattle.txn_program.specs.Valid.{IsValid}
 use Rattle.deneva_top.specs.declared.words.Command.{Command}
 use Rattle.deneva_top.specs.declared.words.Command.TheVariants.{Serial, Replay}
-use Rattle.deneva_top.specs.declared.workload_text.faults.FaultKind.{FaultKind}
-use Rattle.deneva_top.specs.declared.workload_text.faults.FaultKind.TheVariants.{Magic, Kind, Arity, NotANumber, OutOfRange, UnknownKey, Repeated, TooMany, NoEnd, Trailing, TooLong}
-use Rattle.deneva_top.specs.declared.workload_text.faults.InputFault.{InputFault}
-use Rattle.deneva_top.specs.Sources.{InputIs, IsReadUnless}
+use Rattle.workload_text.specs.declared.faults.FaultKind.{FaultKind}
+use Rattle.workload_text.specs.declared.faults.FaultKind.TheVariants.{Magic, Kind, Arity, NotANumber, OutOfRange, UnknownKey, Repeated, TooMany, NoEnd, Trailing, TooLong}
+use Rattle.workload_text.specs.declared.faults.InputFault.{InputFault}
+use Rattle.workload_text.specs.Sources.{InputIs, IsReadUnless}
 use Rattle.deneva_top.specs.Words.{command_of}
-use Rattle.report.specs.Records.{Record, line_of}
+use Rattle.records.specs.Records.{Record, line_of}
 use Rattle.report.specs.ReportText.{report_text}
 use Rattle.run_outcomes.specs.SerialOutcome.{serial_outcome}
 use Rattle.replay.specs.Replayed.{Replays}

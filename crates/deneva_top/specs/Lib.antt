@@ -1,10 +1,4 @@
 pub mod Calls
 pub mod Executor
-pub mod Grammar
-pub mod Files
-pub mod Gives
-pub mod Numbers
 pub mod Options
-pub mod Reader
-pub mod Sources
 pub mod Words

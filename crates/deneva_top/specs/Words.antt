@@ -9,7 +9,7 @@ use Rattle.server_core.specs.declared.schedules.Schedule.{Schedule}
 use Rattle.server_core.specs.declared.schedules.Schedule.TheVariants.{Fifo, Lifo, Seed, Listed}
 use Rattle.deneva_top.specs.declared.words.Command.{Command}
 use Rattle.deneva_top.specs.declared.words.Command.TheVariants.{Serial, Replay}
-use Rattle.deneva_top.specs.Numbers.{number_in}
+use Rattle.workload_text.specs.Numbers.{number_in}
 use Rattle.deneva_top.specs.Options.{Given, options_of, value_at, read_or}
 
 -- one definition after another, up to the first that gives nothing

@@ -4,17 +4,17 @@ ghost use Rattle.deneva_io.specs.Streams.{IsOver, Rose, Grew, WriteTook, WriteCa
 ghost use Rattle.txn_program.specs.Serial.{all_ids};
 ghost use Rattle.txn_program.specs.Valid.{IsValid};
 ghost use Rattle.txn_program.specs.declared.programs.Workload.{Workload};
-ghost use Rattle.deneva_top.specs.declared.workload_text.faults.InputFault.{InputFault};
+ghost use Rattle.workload_text.specs.declared.faults.InputFault.{InputFault};
 ghost use Rattle.deneva_top.specs.declared.words.Command.{Command};
 ghost use Rattle.deneva_top.specs.Words.{command_of};
 ghost use Rattle.deneva_top.specs.Calls.{Answers, IsAsked, Reports, fault_line, report_of};
 ghost use Rattle.replay.specs.declared.runs.Ran.{Ran};
-ghost use Rattle.deneva_top.specs.Sources.{InputIs, WorkIs, FaultIs, IsReadUnless};
+ghost use Rattle.workload_text.specs.Sources.{InputIs, WorkIs, FaultIs, IsReadUnless};
 
 use crate::fault_text::write_fault;
 use crate::serial_model::run_serial;
 use crate::words::{Command, command_of};
-use crate::workload_text::{ReadError, read_workload};
+use workload_text::{ReadError, read_workload};
 use deneva_base::{ByteList, IdList, NoMemory, TxnId};
 use deneva_io::{Put, Sink, Source};
 use replay::{Ran, replay};

@@ -3,7 +3,7 @@ ghost use Rattle.std.specs.Prelude.{◌≡◌, ◌++◌, IfOk};
 ghost use Rattle.deneva_top.specs.Calls.{kind_fields, fault_line};
 ghost use Rattle.report.specs.ReportText.{field_texts};
 
-use crate::workload_text::{FaultKind, InputFault};
+use workload_text::{FaultKind, InputFault};
 use deneva_base::{ByteList, NoMemory};
 use report::{with_field, with_number_field};
 use std::alloc::Global;

@@ -5,7 +5,7 @@ ghost use Rattle.deneva_base.specs.Rows.{rows_in, row_at, put_all, in_key_order}
 ghost use Rattle.txn_program.specs.Serial.{serial, turn, map_after, effect_on, reads_from, settled};
 ghost use Rattle.deneva_top.specs.Executor.{IsKnown};
 
-use crate::ordered_rows::rows_in_order;
+use workload_text::rows_in_order;
 use deneva_base::{Access, Copied, IdList, Key, Keyed, NoMemory, Row, RowList, TxnId};
 use std::alloc::Global;
 use std::collections::BTreeMap;

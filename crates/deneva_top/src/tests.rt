@@ -3,15 +3,11 @@
 mod words;
 
 use crate::serial_model::run_serial;
-use crate::workload_text::{
-    FaultKind, InputFault, ReadError, parse_workload, read_bytes, read_workload,
-};
-use crate::{Ended, deneva};
+use crate::{Ended, deneva, parse_workload};
 use deneva_base::{ByteList, CountList, IdList, NoMemory};
 use deneva_io::{MemSink, MemSource, SureSink, SureSource};
 use std::alloc::Global;
 use std::test::Fail;
-use txn_program::valid;
 
 const TWO_UPDATES: &str = "deneva,1,ycsb,1\nrow,1,a\ntxn,u,1,0,x\ntxn,u,1,0,y\nend\n";
 
@@ -176,24 +172,9 @@ fn a_sink_that_fails_in_the_middle_has_a_first_part(rt: HostRuntime) -> Result<(
 }
 
 #[test]
-fn the_parts_serve_alone(rt: HostRuntime) -> Result<(), Fail> {
-    let mut source = SureSource::new(ByteList::from_bytes(rt.alloc(), TWO_UPDATES.as_bytes())?);
-    let bytes = read_bytes(rt.alloc(), &mut source, 100)?;
-    assert_eq!(rt; bytes.as_slice(), TWO_UPDATES.as_bytes());
-    let mut source = SureSource::new(bytes.copy(rt.alloc())?);
-    let too_long = InputFault {
-        record_no: 0,
-        field_no: 0,
-        kind: FaultKind::TooLong,
-    };
-    assert_eq!(rt;
-        read_bytes(rt.alloc(), &mut source, 10).err(),
-        Some(ReadError::Fault(too_long))
-    );
+fn the_executor_serves_alone(rt: HostRuntime) -> Result<(), Fail> {
+    let bytes = ByteList::from_bytes(rt.alloc(), TWO_UPDATES.as_bytes())?;
     let work = parse_workload(rt.alloc(), &bytes)?;
-    assert_eq!(rt; valid(&work), true);
-    let mut source = SureSource::new(bytes);
-    assert_eq!(rt; read_workload(rt.alloc(), &mut source)?.programs.len(), 2);
     let run = run_serial(rt.alloc(), &work, &IdList::new(rt.alloc()))?;
     assert_eq!(rt; run.runs.len(), 0);
     assert_eq!(rt; run.rows == work.load.rows, true);

@@ -4,7 +4,7 @@ ghost use Rattle.std.specs.List.{starts_with};
 ghost use Rattle.server_core.specs.declared.schedules.Schedule.TheVariants.{Seed};
 ghost use Rattle.deneva_top.specs.Words as spelled;
 
-use crate::numbers::{long_number_within, number_within};
+use workload_text::{long_number_within, number_within};
 use deneva_base::{CountList, NoMemory};
 use server_core::Schedule;
 use std::alloc::Global;

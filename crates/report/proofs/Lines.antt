@@ -1,7 +1,7 @@
 -- The text of records, piece by piece.
 use Rattle.std.proofs.Common.{◌≡◌, ◌∙◌, ℕ, List, [], ◌∷◌, ◌++◌, refl, ap, sym, append_assoc, append-nil}
 use Rattle.std.specs.List.{join_with_byte, flat_map}
-use Rattle.report.specs.Records.{Record, line_of, text_of}
+use Rattle.records.specs.Records.{Record, line_of, text_of}
 use Rattle.report.specs.ReportText.{field_texts}
 
 -- the first piece, and each other behind the byte that joins them

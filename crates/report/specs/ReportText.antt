@@ -21,7 +21,7 @@ use Rattle.server_core.specs.declared.outcomes.Giveup.{Giveup}
 use Rattle.server_core.specs.declared.outcomes.Outcome.{Outcome}
 use Rattle.server_core.specs.declared.outcomes.RunKind.{RunKind}
 use Rattle.server_core.specs.declared.outcomes.RunKind.TheVariants.{Serial, Under}
-use Rattle.report.specs.Records.{Record, line_of, text_of}
+use Rattle.records.specs.Records.{Record, line_of, text_of}
 
 abbrev pub kind_word : RunKind → List ℕ
 kind_word Serial = codes "serial"

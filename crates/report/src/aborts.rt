@@ -1,6 +1,6 @@
 //! The records of transactions that were given up, and of aborted attempts.
 ghost use Rattle.std.specs.Prelude.{◌≡◌, ◌++◌, ◌∷◌, [], OnOk, map, decimal};
-ghost use Rattle.report.specs.Records.{line_of, text_of};
+ghost use Rattle.records.specs.Records.{line_of, text_of};
 ghost use Rattle.report.specs.ReportText.{key_text, giveup_record, cause_fields, abort_record, field_texts};
 
 use crate::fields::{push_attempt, push_field, push_key, push_number_field};

@@ -1,7 +1,7 @@
 //! The records of decided transactions.
 ghost use Rattle.std.specs.Prelude.{◌≡◌, ◌++◌, OnOk};
 ghost use Rattle.std.specs.List.{flat_map};
-ghost use Rattle.report.specs.Records.{line_of, text_of};
+ghost use Rattle.records.specs.Records.{line_of, text_of};
 ghost use Rattle.report.specs.ReportText.{reason_fields, ending_record, decided_record, decided_records, field_texts};
 
 use crate::fields::{push_field, push_key, push_number_field, push_participants};

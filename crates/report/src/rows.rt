@@ -1,6 +1,6 @@
 //! The records of rows.
 ghost use Rattle.std.specs.Prelude.{◌≡◌, ◌++◌, ◌∷◌, OnOk, map};
-ghost use Rattle.report.specs.Records.{line_of, text_of};
+ghost use Rattle.records.specs.Records.{line_of, text_of};
 ghost use Rattle.report.specs.ReportText.{cell_text, row_record, field_texts};
 
 use crate::fields::{push_field, push_key, push_number_field};

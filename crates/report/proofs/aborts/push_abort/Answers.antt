@@ -1,7 +1,7 @@
 use Rattle.std.proofs.Common.{◌≡◌, ◌∙◌, ℕ, List, [], ◌∷◌, ◌++◌, sym, ap, rules, append_assoc}
 use Rattle.std.specs.Prelude.{codes, decimal}
 use Rattle.std.proofs.lemmas.Result.{IfOk-equal}
-use Rattle.report.specs.Records.{line_of}
+use Rattle.records.specs.Records.{line_of}
 use Rattle.report.specs.ReportText.{abort_record, cause_fields, field_texts}
 use Rattle.report.proofs.Lines.{line_of-cons}
 use Rattle.report.proofs.aborts.push_abort.Goals as goal

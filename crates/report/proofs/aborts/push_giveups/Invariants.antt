@@ -1,5 +1,5 @@
 use Rattle.std.proofs.Common.{◌≡◌, ◌++◌, map, drop}
-use Rattle.report.specs.Records.{text_of}
+use Rattle.records.specs.Records.{text_of}
 use Rattle.report.specs.ReportText.{giveup_record}
 use Rattle.report.proofs.aborts.push_giveups.Given as goal
 

@@ -1,6 +1,6 @@
 use Rattle.std.proofs.Common.{◌≡◌, ◌++◌, drop}
 use Rattle.std.specs.List.{flat_map}
-use Rattle.report.specs.Records.{text_of}
+use Rattle.records.specs.Records.{text_of}
 use Rattle.report.specs.ReportText.{decided_records}
 use Rattle.report.proofs.decided.push_all_decided.Given as goal
 

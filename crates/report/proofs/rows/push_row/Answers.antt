@@ -1,6 +1,6 @@
 use Rattle.std.proofs.Common.{◌≡◌, ◌∙◌, ℕ, List, [], ◌∷◌, ◌++◌, map, sym, ap, append_assoc}
 use Rattle.std.proofs.lemmas.Result.{IfOk-equal}
-use Rattle.report.specs.Records.{line_of}
+use Rattle.records.specs.Records.{line_of}
 use Rattle.report.specs.ReportText.{key_text, cell_text, field_texts}
 use Rattle.report.proofs.Lines.{line_of-cons}
 use Rattle.report.proofs.rows.push_row.Goals as goal

@@ -1,5 +1,5 @@
 use Rattle.std.proofs.Common.{◌≡◌, ◌++◌, map, drop}
-use Rattle.report.specs.Records.{text_of}
+use Rattle.records.specs.Records.{text_of}
 use Rattle.report.specs.ReportText.{row_record}
 use Rattle.report.proofs.rows.push_rows.Given as goal
 

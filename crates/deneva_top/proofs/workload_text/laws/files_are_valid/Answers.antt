@@ -1,8 +1,0 @@
-use Rattle.deneva_top.proofs.ValidFiles.{reads_valid, reads_rising}
-use Rattle.deneva_top.proofs.workload_text.laws.files_are_valid.Goals as goal
-
-pub returns-clause-valid : goal.returns-clause-valid
-returns-clause-valid c = reads_valid
-
-pub returns-clause-order : goal.returns-clause-order
-returns-clause-order c = reads_rising

@@ -1,0 +1,384 @@
+-- The records of a workload, and that they give it.
+use Rattle.std.proofs.Common.{◌≡◌, ℕ, zero, suc, ◌+◌, ◌-◌, ◌^◌, ◌≤◌, ◌<◌, Bool, true, false, not, ◌&&◌, ◌||◌, ◌==◌, List, [], ◌∷◌, ◌++◌, map, length, take, drop, refl, sym, ap, ◌∙◌, subst, arith, append_assoc, append-nil, Some, None, Result, Ok}
+use Rattle.std.specs.Prelude.{if◌then◌else◌, nat_le, nat_lt, codes}
+use Rattle.std.specs.Fmt.{decimal}
+use Rattle.std.specs.List.{list_all, list_any, flat_map}
+use Rattle.std.proofs.lemmas.Bool.{and_parts, and_from, or_parts, true≢false, leb-true, lt-leb, ltb-true, le-ltb, eqb-true, eq-eqb, ne_eqb, not-true, not_from_true, not_from_false, or_from}
+use Rattle.std.proofs.lemmas.List.{length-map, length-append}
+use Rattle.deneva_base.specs.Keys.{key_eq}
+use Rattle.deneva_base.specs.Rows.{has_key, put, put_all, in_key_order}
+use Rattle.deneva_base.specs.declared.keys.Key.{Key}
+use Rattle.deneva_base.specs.declared.rows.Cell.{Cell}
+use Rattle.deneva_base.specs.declared.rows.Cell.TheVariants.{Num, Text}
+use Rattle.deneva_base.specs.declared.rows.Keyed.{Keyed}
+use Rattle.txn_program.specs.Transactions.{ycsb_key}
+use Rattle.txn_program.specs.Valid.{IsValid, is_text, is_text_cell, is_ycsb_key, is_valid_row, are_distinct, is_valid_act, is_valid_step, is_valid_program}
+use Rattle.txn_program.specs.declared.programs.YcsbAct.{YcsbAct}
+use Rattle.txn_program.specs.declared.programs.YcsbAct.TheVariants.{Read, Update, Put}
+use Rattle.txn_program.specs.declared.programs.YcsbPut.{YcsbPut}
+use Rattle.txn_program.specs.declared.programs.YcsbStep.{YcsbStep}
+use Rattle.txn_program.specs.declared.programs.Program.{Program}
+use Rattle.txn_program.specs.declared.programs.Program.TheVariants as programs
+use Rattle.txn_program.specs.declared.programs.WorkKind.{WorkKind}
+use Rattle.txn_program.specs.declared.programs.WorkKind.TheVariants as kinds
+use Rattle.txn_program.specs.declared.programs.Load.{Load}
+use Rattle.txn_program.specs.declared.programs.Workload.{Workload}
+use Rattle.workload_text.specs.declared.faults.FaultKind.TheVariants.{UnknownKey, Repeated}
+use Rattle.workload_text.specs.declared.faults.Flaw.{Flaw}
+use Rattle.workload_text.specs.declared.heads.Format.TheVariants.{Two}
+use Rattle.workload_text.specs.declared.heads.Head.{Head}
+use Rattle.workload_text.specs.declared.said.Said.TheVariants.{Loads, Runs}
+use Rattle.workload_text.specs.declared.steps.Placed.{Placed}
+use Rattle.workload_text.specs.Files.{is_short, has_short_keys, AreNumbers, in_order}
+use Rattle.workload_text.specs.Gives.{◌>>=◌}
+use Rattle.records.specs.Records.{Record}
+use Rattle.workload_text.specs.Fields.{number_at, placed_at, text_at, texts_from}
+use Rattle.workload_text.specs.Grammar.{said_by, with_row, read_after, read_on, empty, head_from, read_from_head, workload_from}
+use Rattle.workload_text.specs.Loading.{row_of}
+use Rattle.workload_text.specs.Ycsb.{row_from, width, put_from, act_from, step_from, steps_from, first_unknown, first_repeated, none_at, txn_of}
+use Rattle.workload_text.proofs.Decimals.{number_in-decimal}
+use Rattle.workload_text.proofs.Puts.{has_key-put, length-put}
+use Rattle.workload_text.proofs.StepByStep.{stepped}
+use Rattle.workload_text.proofs.ValidFiles.{step_keys, and_trues}
+
+-- the records
+
+abbrev pub cell_text : Cell → List ℕ
+cell_text (Num n) = []
+cell_text (Text text) = text
+
+abbrev pub row_record : Keyed → Record
+row_record r = codes "row" ∷ decimal r.key.a ∷ map cell_text r.row
+
+abbrev pub act_word : YcsbAct → List ℕ
+act_word Read = codes "r"
+act_word (Update put) = codes "u"
+act_word (Put row) = codes "p"
+
+abbrev pub act_fields : YcsbAct → Record
+act_fields Read = []
+act_fields (Update put) = decimal put.field ∷ put.text ∷ []
+act_fields (Put row) = map cell_text row
+
+abbrev pub step_fields : YcsbStep → Record
+step_fields step = act_word step.act ∷ decimal step.key ∷ act_fields step.act
+
+abbrev pub program_record : Program → Record
+program_record (programs.Ycsb steps) = codes "txn" ∷ flat_map step_fields steps
+
+-- the head of a file in format 2
+abbrev pub head_two : ℕ → Head
+head_two fields = record { format = Two; fields = fields }
+
+-- one definition after another, where the first gives a value
+
+then_ok : {A B : Type 0} (r : Result A Flaw) (f : A → Result B Flaw) (x : A) → r ≡ Ok x → (r >>= f) ≡ f x
+then_ok r f x e = ap (λ q. q >>= f) e
+
+if_false : {A : Type 0} (t : Bool) (a b : A) → t ≡ false → (if t then a else b) ≡ b
+if_false t a b e = ap (λ q. if q then a else b) e
+
+if_true : {A : Type 0} (t : Bool) (a b : A) → t ≡ true → (if t then a else b) ≡ a
+if_true t a b e = ap (λ q. if q then a else b) e
+
+number_back : (place low high n : ℕ) → low ≤ n → n ≤ high → n < 2 ^ 64 → number_at place low high (decimal n) ≡ Ok n
+number_back place low high n above below h = ap (placed_at place) (number_in-decimal low high n above below h)
+
+key_back : (place key : ℕ) → is_short key ≡ true → number_at place 0 4294967295 (decimal key) ≡ Ok key
+key_back place key h = let short : key < 2 ^ 32 = ltb-true key (2 ^ 32) h in number_back place 0 4294967295 key (omega arith) (omega arith) (omega arith)
+
+text_back : (n : ℕ) (text : List ℕ) → is_text text ≡ true → text_at n text ≡ Ok text
+text_back n text h = if_true (nat_le (length text) 100) _ _ (and_parts _ _ h).0
+
+texts_back : (n : ℕ) (cells : List Cell) → list_all is_text_cell cells ≡ true → texts_from n (map cell_text cells) ≡ Ok cells
+texts_back n [] h = refl
+texts_back n (Num k ∷ cells) h = absurd (true≢false (sym h))
+texts_back n (Text text ∷ cells) h =
+    then_ok (text_at n text) _ text (text_back n text (and_parts _ _ h).0) ∙ then_ok (texts_from (n + 1) (map cell_text cells)) _ cells (texts_back (n + 1) cells (and_parts _ _ h).1)
+
+-- a row
+
+own_key : (key : Key) → is_ycsb_key key ≡ true → ycsb_key key.a ≡ key
+own_key key h =
+    let p = and_parts _ _ h in
+    let q = and_parts _ _ p.0 in
+    λ i. record { table = sym (eqb-true key.table 0 q.0) i; a = key.a; b = sym (eqb-true key.b 0 q.1) i; c = sym (eqb-true key.c 0 p.1) i }
+
+row_back : (head : Head) (work : Workload) (r : Keyed) → length work.programs ≡ 0 → is_valid_row head.fields r ≡ true → is_short r.key.a ≡ true → has_key work.load.rows r.key ≡ false
+    → length work.load.rows < 1000000 → row_from head work (row_record r) ≡ Ok (Loads r)
+row_back head work r none valid short new room =
+    let v = and_parts _ _ valid in
+    let same : ycsb_key r.key.a ≡ r.key = own_key r.key v.0 in
+    let cells = and_parts _ _ v.1 in
+    let long : length (row_record r) ≡ 2 + head.fields = ap (λ n. suc (suc n)) (length-map r.row cell_text ∙ eqb-true (length r.row) head.fields cells.0) ∙ omega arith in
+    if_false (not (length work.programs == 0)) _ _ (not_from_true _ (eq-eqb _ _ none))
+    ∙ if_false (not (length (row_record r) == 2 + head.fields)) _ _ (not_from_true _ (eq-eqb _ _ long))
+    ∙ then_ok (number_at 2 0 4294967295 (decimal r.key.a)) _ r.key.a (key_back 2 r.key.a short)
+    ∙ then_ok (texts_from 3 (map cell_text r.row)) _ r.row (texts_back 3 r.row cells.1)
+    ∙ ap (λ (k : Key). row_of work k r.row) same
+    ∙ if_false (has_key work.load.rows r.key) _ _ new
+    ∙ if_false (nat_le 1000000 (length work.load.rows)) _ _ (lt-leb 1000000 (length work.load.rows) room)
+
+-- no row of the list has a key that is among the rows
+abbrev pub are_new : List Keyed → List Keyed → Bool
+are_new rows more = list_all (λ r. not (has_key rows r.key)) more
+
+still_new : (rows : List Keyed) (r : Keyed) (more : List Keyed) → list_any (key_eq r.key) (map (λ s. s.key) more) ≡ false → are_new rows more ≡ true → are_new (put rows r) more ≡ true
+still_new rows r [] apart h = refl
+still_new rows r (s ∷ more) apart h =
+    let parts = or_parts _ _ apart in
+    and_from _ _ (not_from_false _ (has_key-put rows r s.key ∙ or_from _ _ parts.0 (not-true _ (and_parts _ _ h).0))) (still_new rows r more parts.1 (and_parts _ _ h).1)
+
+-- the rows of a load, one record each
+pub rows_back : (head : Head) (n : ℕ) (rows : List Keyed) (more : List Record) (work out : Workload)
+    → length work.programs ≡ 0 → list_all (is_valid_row head.fields) rows ≡ true → list_all (λ r. is_short r.key.a) rows ≡ true → are_distinct (map (λ r. r.key) rows) ≡ true
+    → are_new work.load.rows rows ≡ true → length work.load.rows + length rows ≤ 1000000
+    → ((m : ℕ) → read_on head m more (record work { load = record work.load { rows = put_all work.load.rows rows } }) ≡ Ok out)
+    → read_on head n (map row_record rows ++ more) work ≡ Ok out
+rows_back head n [] more work out none valid short apart new room go = go n
+rows_back head n (r ∷ rows) more work out none valid short apart new room go =
+    let fits : length work.load.rows < 1000000 = omega arith in
+    let free : has_key work.load.rows r.key ≡ false = not-true _ (and_parts _ _ new).0 in
+    let long : length (put work.load.rows r) ≡ length work.load.rows + 1 = length-put work.load.rows r free in
+    let left : length (put work.load.rows r) + length rows ≤ 1000000 = omega arith in
+    ap (read_after n work (map row_record rows ++ more) (read_on head (n + 1) (map row_record rows ++ more))) (row_back head work r none (and_parts _ _ valid).0 (and_parts _ _ short).0 free fits)
+    ∙ rows_back head (n + 1) rows more (with_row work r) out none (and_parts _ _ valid).1 (and_parts _ _ short).1 (and_parts _ _ apart).1
+    (still_new work.load.rows r rows (not-true _ (and_parts _ _ apart).0) (and_parts _ _ new).1) left go
+
+-- a step
+
+put_back : (fields n : ℕ) (put : YcsbPut) → fields ≤ 10 → is_valid_act fields (Update put) ≡ true → put_from (head_two fields) n (decimal put.field ∷ put.text ∷ []) ≡ Ok put
+put_back fields n put few h =
+    let inside : put.field < fields = ltb-true put.field fields (and_parts _ _ h).0 in
+    then_ok (number_at (n + 2) 0 (fields - 1) (decimal put.field)) _ put.field (number_back (n + 2) 0 (fields - 1) put.field (omega arith) (omega arith) (omega arith))
+    ∙ then_ok (text_at (n + 3) put.text) _ put.text (text_back (n + 3) put.text (and_parts _ _ h).1)
+
+act_back : (fields n : ℕ) (act : YcsbAct) → fields ≤ 10 → is_valid_act fields act ≡ true → act_from (head_two fields) n (act_word act) (act_fields act) ≡ Ok act
+act_back fields n Read few h = refl
+act_back fields n (Update put) few h = then_ok (put_from (head_two fields) n (decimal put.field ∷ put.text ∷ [])) _ put (put_back fields n put few h)
+act_back fields n (Put row) few h = then_ok (texts_from (n + 2) (map cell_text row)) _ row (texts_back (n + 2) row (and_parts _ _ h).1)
+
+step_back : (fields n : ℕ) (step : YcsbStep) → fields ≤ 10 → is_valid_act fields step.act ≡ true → is_short step.key ≡ true
+    → step_from (head_two fields) n (act_word step.act) (decimal step.key ∷ act_fields step.act) ≡ Ok (record { field_no = n + 1; step = step })
+step_back fields n step few fit short =
+    then_ok (number_at (n + 1) 0 4294967295 (decimal step.key)) _ step.key (key_back (n + 1) step.key short)
+    ∙ then_ok (act_from (head_two fields) n (act_word step.act) (act_fields step.act)) _ step.act (act_back fields n step.act few fit)
+
+width_back : (fields key : ℕ) (act : YcsbAct) → is_valid_act fields act ≡ true → width (head_two fields) (act_word act) ≡ Some (length (decimal key ∷ act_fields act))
+width_back fields key Read h = refl
+width_back fields key (Update put) h = refl
+width_back fields key (Put row) h =
+    let long : length (map cell_text row) ≡ fields = length-map row cell_text ∙ eqb-true (length row) fields (and_parts _ _ h).0 in
+    ap Some (omega arith)
+
+-- the steps of a transaction
+
+take_own : (xs ys : Record) → xs ≡ take (length xs) (xs ++ ys)
+take_own [] ys = refl
+take_own (x ∷ xs) ys = ap (λ (l : Record). x ∷ l) (take_own xs ys)
+
+drop_own : (xs ys : Record) → drop (length xs) (xs ++ ys) ≡ ys
+drop_own [] ys = refl
+drop_own (x ∷ xs) ys = drop_own xs ys
+
+record Back (fields most n : ℕ) (steps : List YcsbStep) : Type 0 where
+  placed : List Placed
+  read : steps_from (head_two fields) most n (flat_map step_fields steps) ≡ Ok placed
+  same : map (λ p. p.step) placed ≡ steps
+
+steps_back : (load : Load) (steps : List YcsbStep) (most n : ℕ) → load.fields ≤ 10 → length steps ≤ most → list_all (is_valid_step load) steps ≡ true → list_all (λ step. is_short step.key) steps ≡ true
+    → Back load.fields most n steps
+steps_back load [] zero n few enough valid short = record { placed = []; read = refl; same = refl }
+steps_back load [] (suc m) n few enough valid short = record { placed = []; read = refl; same = refl }
+steps_back load (step ∷ steps) zero n few enough valid short = absurd (omega arith)
+steps_back load (step ∷ steps) (suc m) n few enough valid short =
+    let args : Record = decimal step.key ∷ act_fields step.act in
+    let more : Record = args ++ flat_map step_fields steps in
+    let placed : Placed = record { field_no = n + 1; step = step } in
+    let left : length steps ≤ m = omega arith in
+    let inside : length args ≤ length more = omega (arith, length-append args (flat_map step_fields steps)) in
+    let fit = (and_parts _ _ (and_parts _ _ valid).0).1 in
+    let rest = steps_back load steps m (n + 1 + length args) few left (and_parts _ _ valid).1 (and_parts _ _ short).1 in
+    record {
+      placed = placed ∷ rest.placed;
+      read = stepped (head_two load.fields) m n (length args) (flat_map step_fields (step ∷ steps)) more args (act_word step.act) refl (width_back load.fields step.key step.act fit) inside
+          (take_own args (flat_map step_fields steps))
+          ∙ then_ok (step_from (head_two load.fields) n (act_word step.act) args) _ placed (step_back load.fields n step few fit (and_parts _ _ short).0)
+          ∙ then_ok (steps_from (head_two load.fields) m (n + 1 + length args) (drop (length args) more)) _ rest.placed
+          (ap (steps_from (head_two load.fields) m (n + 1 + length args)) (drop_own args (flat_map step_fields steps)) ∙ rest.read);
+      same = ap (λ (l : List YcsbStep). step ∷ l) rest.same;
+    }
+
+enough_fields : (steps : List YcsbStep) → length steps ≤ length (flat_map step_fields steps)
+enough_fields [] = omega arith
+enough_fields (step ∷ steps) = omega (arith, length-append (decimal step.key ∷ act_fields step.act) (flat_map step_fields steps), enough_fields steps)
+
+-- a transaction
+
+known_back : (load : Load) (placed : List Placed) → list_all (is_valid_step load) (map (λ p. p.step) placed) ≡ true → first_unknown load.rows placed ≡ None
+known_back load [] h = refl
+known_back load (p ∷ placed) h =
+    if_true (has_key load.rows (ycsb_key p.step.key)) _ _ (and_parts _ _ (and_parts _ _ h).0).0 ∙ known_back load placed (and_parts _ _ h).1
+
+-- no step's key is among these
+abbrev pub are_other : List ℕ → List Placed → Bool
+are_other keys placed = list_all (λ p. not (list_any (λ key. key == p.step.key) keys)) placed
+
+still_other : (k : ℕ) (keys : List ℕ) (placed : List Placed) → list_any (key_eq (ycsb_key k)) (step_keys placed) ≡ false → are_other keys placed ≡ true → are_other (k ∷ keys) placed ≡ true
+still_other k keys [] apart h = refl
+still_other k keys (p ∷ placed) apart h =
+    let parts = or_parts _ _ apart in
+    and_from _ _ (not_from_false _ (or_from _ _ (sym (and_trues (k == p.step.key)) ∙ parts.0) (not-true _ (and_parts _ _ h).0))) (still_other k keys placed parts.1 (and_parts _ _ h).1)
+
+apart_back : (keys : List ℕ) (placed : List Placed) → are_distinct (step_keys placed) ≡ true → are_other keys placed ≡ true → first_repeated keys placed ≡ None
+apart_back keys [] apart h = refl
+apart_back keys (p ∷ placed) apart h =
+    if_false (list_any (λ key. key == p.step.key) keys) _ _ (not-true _ (and_parts _ _ h).0)
+    ∙ apart_back (p.step.key ∷ keys) placed (and_parts _ _ apart).1 (still_other p.step.key keys placed (not-true _ (and_parts _ _ apart).0) (and_parts _ _ h).1)
+
+none_other : (placed : List Placed) → are_other [] placed ≡ true
+none_other [] = refl
+none_other (p ∷ placed) = none_other placed
+
+txn_back : (work : Workload) (placed : List Placed) → is_valid_program work.load (programs.Ycsb (map (λ p. p.step) placed)) ≡ true → length work.programs < 10000
+    → txn_of work placed ≡ Ok (Runs (programs.Ycsb (map (λ p. p.step) placed)))
+txn_back work placed valid room =
+    let v = and_parts _ _ valid in
+    let x = and_parts _ _ v.0 in
+    let y = and_parts _ _ x.0 in
+    let long : length (map (λ (p : Placed). p.step) placed) ≡ length placed = length-map placed (λ (p : Placed). p.step) in
+    let some : 1 ≤ length placed = subst (λ (n : ℕ). 1 ≤ n) long (leb-true _ _ y.0) in
+    let few : length placed ≤ 16 = subst (λ (n : ℕ). n ≤ 16) long (leb-true _ _ y.1) in
+    if_false (length placed == 0) _ _ (some_not_none placed some)
+    ∙ then_ok (none_at UnknownKey (first_unknown work.load.rows placed)) _ tt (ap (none_at UnknownKey) (known_back work.load placed x.1))
+    ∙ then_ok (none_at Repeated (first_repeated [] placed)) _ tt (ap (none_at Repeated) (apart_back [] placed v.1 (none_other placed)))
+    ∙ if_false (nat_lt 16 (length placed)) _ _ (le-ltb 16 (length placed) few)
+    ∙ if_false (nat_le 10000 (length work.programs)) _ _ (lt-leb 10000 (length work.programs) room)
+  where
+    some_not_none : (placed : List Placed) → 1 ≤ length placed → (length placed == 0) ≡ false
+    some_not_none placed some = ne_eqb (length placed) 0 (λ e. absurd (omega arith))
+
+program_back : (work : Workload) (p : Program) → work.load.fields ≤ 10 → is_valid_program work.load p ≡ true → has_short_keys p ≡ true → length work.programs < 10000
+    → said_by (head_two work.load.fields) work (program_record p) ≡ Ok (Runs p)
+program_back work (programs.Ycsb steps) few valid short room =
+    let enough : length steps ≤ length (program_record (programs.Ycsb steps)) = omega (arith, enough_fields steps) in
+    let back = steps_back work.load steps (length (program_record (programs.Ycsb steps))) 2 few enough (and_parts _ _ (and_parts _ _ valid).0).1 short in
+    then_ok (steps_from (head_two work.load.fields) (length (program_record (programs.Ycsb steps))) 2 (flat_map step_fields steps)) _ back.placed back.read
+    ∙ txn_back work back.placed (subst (λ (l : List YcsbStep). is_valid_program work.load (programs.Ycsb l) ≡ true) (sym back.same) valid) room
+    ∙ ap (λ (l : List YcsbStep). Ok (Runs (programs.Ycsb l))) back.same
+
+-- the transactions, one record each
+pub programs_back : (load : Load) (n : ℕ) (done ps all : List Program) (more : List Record) (out : Workload) → load.fields ≤ 10
+    → list_all (is_valid_program load) ps ≡ true → list_all has_short_keys ps ≡ true → length done + length ps ≤ 10000 → done ++ ps ≡ all
+    → ((m : ℕ) → read_on (head_two load.fields) m more (record { load = load; programs = all }) ≡ Ok out)
+    → read_on (head_two load.fields) n (map program_record ps ++ more) (record { load = load; programs = done }) ≡ Ok out
+programs_back load n done [] all more out few valid short room e go =
+    subst (λ (l : List Program). read_on (head_two load.fields) n more (record { load = load; programs = l }) ≡ Ok out) (sym e ∙ append-nil done) (go n)
+programs_back load n done (p ∷ ps) all more out few valid short room e go =
+    let work : Workload = record { load = load; programs = done } in
+    let fits : length done < 10000 = omega arith in
+    let left : length (done ++ p ∷ []) + length ps ≤ 10000 = omega (arith, length-append done (p ∷ [])) in
+    ap (read_after n work (map program_record ps ++ more) (read_on (head_two load.fields) (n + 1) (map program_record ps ++ more))) (program_back work p few (and_parts _ _ valid).0 (and_parts _ _ short).0 fits)
+    ∙ programs_back load (n + 1) (done ++ p ∷ []) ps all more out few (and_parts _ _ valid).1 (and_parts _ _ short).1 left (append_assoc done (p ∷ []) ps ∙ e) go
+
+-- the head of a file
+abbrev pub head_record : ℕ → Record
+head_record fields = codes "deneva" ∷ codes "2" ∷ codes "ycsb" ∷ decimal fields ∷ []
+
+pub head_back : (fields : ℕ) → 1 ≤ fields → fields ≤ 10 → head_from (head_record fields) ≡ Ok (head_two fields)
+head_back fields some few = then_ok (number_at 4 1 10 (decimal fields)) _ fields (number_back 4 1 10 fields some few (omega arith))
+
+abbrev pub end_records : List Record
+end_records = (codes "end" ∷ []) ∷ []
+
+-- the records of a workload
+abbrev pub file_records : Workload → List Record
+file_records work = head_record work.load.fields ∷ (map row_record work.load.rows ++ (map program_record work.programs ++ end_records))
+
+-- The keys of a load are those of its rows in any order.
+
+or_move : (a b c : Bool) → ((a || b) || c) ≡ (b || (a || c))
+or_move true true c = refl
+or_move true false c = refl
+or_move false b c = refl
+
+has_key-put_all : (rows more : List Keyed) (k : Key) → has_key (put_all rows more) k ≡ (has_key rows k || has_key more k)
+has_key-put_all rows [] k = sym (or_none (has_key rows k))
+  where
+    or_none : (t : Bool) → (t || false) ≡ t
+    or_none true = refl
+    or_none false = refl
+has_key-put_all rows (r ∷ more) k =
+    has_key-put_all (put rows r) more k ∙ ap (λ t. t || has_key more k) (has_key-put rows r k) ∙ or_move (key_eq r.key k) (has_key rows k) (has_key more k)
+
+-- the load in key order
+abbrev pub ordered : Load → Load
+ordered load = record { kind = kinds.Ycsb; fields = load.fields; rows = in_key_order load.rows; items = [] }
+
+steps_ordered : (load : Load) (steps : List YcsbStep) → list_all (is_valid_step (ordered load)) steps ≡ list_all (is_valid_step load) steps
+steps_ordered load [] = refl
+steps_ordered load (step ∷ steps) =
+    ap (λ t. t && is_valid_act load.fields step.act && list_all (is_valid_step (ordered load)) steps) (has_key-put_all [] load.rows (ycsb_key step.key))
+    ∙ ap (λ t. is_valid_step load step && t) (steps_ordered load steps)
+
+program_ordered : (load : Load) (p : Program) → is_valid_program (ordered load) p ≡ is_valid_program load p
+program_ordered load (programs.Ycsb steps) =
+    ap (λ t. nat_le 1 (length steps) && nat_le (length steps) 16 && t && are_distinct (map (λ step. ycsb_key step.key) steps)) (steps_ordered load steps)
+
+programs_ordered : (load : Load) (ps : List Program) → list_all (is_valid_program load) ps ≡ true → list_all (is_valid_program (ordered load)) ps ≡ true
+programs_ordered load [] h = refl
+programs_ordered load (p ∷ ps) h = and_from _ _ (program_ordered load p ∙ (and_parts _ _ h).0) (programs_ordered load ps (and_parts _ _ h).1)
+
+kind_is : (kind : WorkKind) → kinds.Ycsb ≡ kind
+kind_is kinds.Ycsb = refl
+
+all_new : (rows : List Keyed) → are_new [] rows ≡ true
+all_new [] = refl
+all_new (r ∷ rows) = all_new rows
+
+-- the bounds and tests of a valid workload
+pub record Parts (work : Workload) : Type 0 where
+  pub some : 1 ≤ work.load.fields
+  pub few : work.load.fields ≤ 10
+  pub room : length work.load.rows ≤ 1000000
+  pub rows : list_all (is_valid_row work.load.fields) work.load.rows ≡ true
+  pub apart : are_distinct (map (λ r. r.key) work.load.rows) ≡ true
+  pub turns : length work.programs ≤ 10000
+  pub programs : list_all (is_valid_program work.load) work.programs ≡ true
+
+pub partitions_of : (work : Workload) → IsValid work → Parts work
+partitions_of work valid =
+    let v = and_parts _ _ valid in
+    let l = and_parts _ _ v.0 in
+    let d = and_parts _ _ l.0 in
+    let rows = and_parts _ _ d.0 in
+    let long = and_parts _ _ rows.0 in
+    let bounds = and_parts _ _ long.0 in
+    record {
+      some = leb-true _ _ bounds.0;
+      few = leb-true _ _ bounds.1;
+      room = leb-true _ _ long.1;
+      rows = rows.1;
+      apart = d.1;
+      turns = leb-true _ _ l.1;
+      programs = v.1;
+    }
+
+-- the records of a valid workload give it
+pub workload_back : (work : Workload) → IsValid work → AreNumbers work → workload_from (file_records work) ≡ Ok (in_order work)
+workload_back work valid short =
+    let p = partitions_of work valid in
+    let keys = and_parts _ _ short in
+    let out : Workload = record { load = ordered work.load; programs = work.programs } in
+    let head = head_two work.load.fields in
+    let after : List Record = map program_record work.programs ++ end_records in
+    ap (λ h. read_from_head h (map row_record work.load.rows ++ after)) (head_back work.load.fields p.some p.few)
+    ∙ rows_back head 2 work.load.rows after (empty head) out refl p.rows keys.0 p.apart (all_new work.load.rows) (rows_fit work p)
+    (λ m. programs_back (ordered work.load) m [] work.programs work.programs end_records out p.few (programs_ordered work.load work.programs p.programs) keys.1 (programs_fit work p) refl (λ k. refl))
+    ∙ ap (λ (kind : WorkKind). Ok (record { load = record { kind = kind; fields = work.load.fields; rows = in_key_order work.load.rows; items = [] }; programs = work.programs })) (kind_is work.load.kind)
+  where
+    rows_fit : (work : Workload) → Parts work → 0 + length work.load.rows ≤ 1000000
+    rows_fit work p = let h : length work.load.rows ≤ 1000000 = p.room in omega arith
+
+    programs_fit : (work : Workload) → Parts work → 0 + length work.programs ≤ 10000
+    programs_fit work p = let h : length work.programs ≤ 10000 = p.turns in omega arith

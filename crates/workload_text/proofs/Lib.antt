@@ -1,0 +1,12 @@
+pub mod Bound
+pub mod Decimals
+pub mod FileOf
+pub mod FileRecords
+pub mod Onward
+pub mod Plain
+pub mod Puts
+pub mod FirstQuote
+pub mod RecordText
+pub mod StepByStep
+pub mod ValidFiles
+pub mod WrittenRecords

@@ -1,0 +1,11 @@
+pub mod Fields
+pub mod Files
+pub mod Gives
+pub mod Grammar
+pub mod Loading
+pub mod Numbers
+pub mod Reader
+pub mod SortedItems
+pub mod Sources
+pub mod Tpcc
+pub mod Ycsb

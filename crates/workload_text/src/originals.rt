@@ -1,0 +1,24 @@
+//! Which items are original.
+ghost use Rattle.std.specs.Prelude.{◌≡◌, codes};
+ghost use Rattle.tpcc_rules.specs.NewOrders as orders;
+
+/// Whether the bytes hold these bytes somewhere.
+fn includes(needle: &[u8], bytes: &[u8]) -> bool
+    ensures { result ≡ orders.includes needle.now bytes.now }
+{
+    let mut rest = bytes;
+    while let Some((_, more)) = rest.split_first() {
+        if rest.starts_with(needle) {
+            return true;
+        }
+        rest = more;
+    }
+    needle.is_empty()
+}
+
+/// Whether the data of an item includes `ORIGINAL` (TPC-C 4.3.3.1).
+pub fn is_original(data: &[u8]) -> bool
+    ensures { result ≡ orders.includes (codes "ORIGINAL") data.now }
+{
+    includes(b"ORIGINAL", data)
+}
