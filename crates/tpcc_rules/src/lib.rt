@@ -5,6 +5,11 @@ mod cells;
 mod columns;
 mod effects;
 mod items;
+#[cfg(test)]
+mod name_tests;
+mod names;
+#[cfg(test)]
+mod order_tests;
 mod orders;
 #[cfg(test)]
 mod payment_tests;
@@ -21,6 +26,7 @@ pub use columns::{Column, fits_all};
 use deneva_base::Items;
 pub use effects::{Effect, Reason, Verdict};
 pub use items::ItemList;
+pub use names::{Namesakes, by_last_name, last_name, nurand};
 pub use orders::new_order_effect;
 pub use payments::payment_effect;
 pub use programs::{Item, Line, NewOrder, Payment};
