@@ -5,6 +5,8 @@ mod cells;
 mod columns;
 mod effects;
 mod items;
+#[cfg(test)]
+mod order_tests;
 mod orders;
 #[cfg(test)]
 mod payment_tests;

@@ -1,4 +1,5 @@
-use Rattle.std.proofs.Common.{◌≡◌, ◌∙◌, ◌<◌, ap, pos, true, arith, rules}
+use Rattle.std.proofs.Common.{◌≡◌, ◌∙◌, ◌<◌, ap, pos, true, arith, rules, to_z, of_z}
+use Rattle.std.specs.Int.{w64}
 use Rattle.tpcc_rules.specs.Columns.{fits_all, number_at}
 use Rattle.tpcc_rules.specs.Effects.{raised, whole}
 use Rattle.tpcc_rules.specs.Tables.{columns}
@@ -10,7 +11,8 @@ overflow_cast-result c =
     let district = c.args.district.now in
     let made : (c.in-Some.cells ≡ raised 3 (pos 1) district) × (fits_all (columns 2) c.in-Some.cells ≡ true) = rw c.in-Some.is at c.in_ok-cells.ensures in
     let fits : fits_all (columns 2) (raised 3 (pos 1) district) ≡ true = rw made.0 at made.1 in
-    let number : c.whole_of-number.result ≡ whole (number_at district 3) = c.whole_of-number.ensures.whole ∙ ap whole c.number_at.ensures in
+    let same : to_z w64 (of_z w64 c.number_at.result) ≡ c.number_at.result = search rules in
+    let number : c.whole_of-number.result ≡ whole (number_at district 3) = c.whole_of-number.ensures.whole ∙ ap whole (same ∙ c.number_at.ensures) in
     let small = next_small district fits in
     omega (arith, number, small)
 
@@ -19,6 +21,7 @@ returns c =
     let district = c.args.district.now in
     let made : (c.in-Some.cells ≡ raised 3 (pos 1) district) × (fits_all (columns 2) c.in-Some.cells ≡ true) = rw c.in-Some.is at c.in_ok-cells.ensures in
     let fits : fits_all (columns 2) (raised 3 (pos 1) district) ≡ true = rw made.0 at made.1 in
-    let number : c.whole_of-number.result ≡ whole (number_at district 3) = c.whole_of-number.ensures.whole ∙ ap whole c.number_at.ensures in
+    let same : to_z w64 (of_z w64 c.number_at.result) ≡ c.number_at.result = search rules in
+    let number : c.whole_of-number.result ≡ whole (number_at district 3) = c.whole_of-number.ensures.whole ∙ ap whole (same ∙ c.number_at.ensures) in
     let small = next_small district fits in
     (number, omega (arith, number, small), made.0, made.1)
