@@ -1,6 +1,6 @@
 -- The keys of stock rows, each once.
-use Rattle.std.proofs.Common.{◌≡◌, ◌∙◌, ℕ, suc, ◌+◌, ◌<◌, List, [], ◌∷◌, ◌++◌, map, Bool, true, false, not, cond, ◌&&◌, ◌||◌, length, get_or, take, All, Option, Some, None, refl, sym, ap, subst, arith}
-use Rattle.std.specs.Prelude.{option_map, is_some, ◌==◌}
+use Rattle.std.proofs.Common.{◌≡◌, ◌∙◌, ℕ, zero, suc, ◌+◌, ◌<◌, List, [], ◌∷◌, ◌++◌, map, Bool, true, false, not, cond, ◌&&◌, ◌||◌, length, get_or, take, All, Option, Some, None, refl, sym, ap, subst, arith}
+use Rattle.std.specs.Prelude.{option_map, is_some, ⊤, ◌==◌}
 use Rattle.std.specs.List.{filter, list_any}
 use Rattle.std.proofs.Math.Seq.{take-suc}
 use Rattle.std.proofs.lemmas.Bool.{false≢true}
@@ -121,3 +121,33 @@ module _ (items : List Item) (lines : List Line) (i : ℕ) (d : Line) (within : 
 
     pub taken_again : list_any (λ k. key_eq k key) keys ≡ true → keys ≡ stocks items (take (i + 1) lines)
     taken_again old = those ∙ sym (loaded there ∙ once_again (stock_of line) before (sym among ∙ old))
+
+-- all are keys of STOCK
+
+abbrev InStock : List Key → Type 0
+InStock [] = ⊤
+InStock (k ∷ keys) = (k.table ≡ 4) × InStock keys
+
+in_stock-map : (lines : List Line) → InStock (map stock_of lines)
+in_stock-map [] = tt
+in_stock-map (l ∷ lines) = (refl, in_stock-map lines)
+
+in_stock-filter : (p : Key → Bool) (keys : List Key) → InStock keys → InStock (filter p keys)
+in_stock-filter p [] h = tt
+in_stock-filter p (k ∷ keys) h = go (p k) (in_stock-filter p keys h.1)
+  where
+    go : (b : Bool) → InStock (filter p keys) → InStock (cond b (k ∷ filter p keys) (filter p keys))
+    go true more = (h.0, more)
+    go false more = more
+
+in_stock-once : (keys : List Key) → InStock keys → InStock (once keys)
+in_stock-once [] h = tt
+in_stock-once (k ∷ keys) h = (h.0, in_stock-filter (λ q. not (key_eq q k)) (once keys) (in_stock-once keys h.1))
+
+by_place : (keys : List Key) → InStock keys → All (λ k. k.table ≡ 4) keys
+by_place [] h i d within = absurd (omega arith)
+by_place (k ∷ keys) h zero d within = h.0
+by_place (k ∷ keys) h (suc i) d within = by_place keys h.1 i d (omega arith)
+
+pub stocks_in_stock : (items : List Item) (lines : List Line) → All (λ k. k.table ≡ 4) (stocks items lines)
+stocks_in_stock items lines = by_place (stocks items lines) (in_stock-once _ (in_stock-map (filter (is_loaded items) lines)))
