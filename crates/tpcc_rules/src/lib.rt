@@ -4,6 +4,9 @@
 mod cells;
 mod effects;
 mod items;
+#[cfg(test)]
+mod name_tests;
+mod names;
 mod payments;
 mod programs;
 mod read_rows;
@@ -14,6 +17,7 @@ pub use cells::{
 use deneva_base::Items;
 pub use effects::{Effect, Reason, Verdict};
 pub use items::ItemList;
+pub use names::{Namesakes, by_last_name, last_name, nurand};
 pub use payments::payment_effect;
 pub use programs::{Item, Line, NewOrder, Payment};
 pub use read_rows::{ReadRow, cells_of, row_among, rows_lying};
