@@ -47,9 +47,10 @@ none_before lt x (y ∷ ys) h = (h zero x (omega arith), none_before lt x ys (λ
 
 ascends_from_far : {A : Type 0} (lt : A → A → Bool) (xs : List A) → ((i j : ℕ) (d : A) → i ≤ j → j < length xs → lt (get_or xs j d) (get_or xs i d) ≡ false) → Ascends lt xs
 ascends_from_far lt [] h = tt
-ascends_from_far lt (x ∷ xs) h =
-    (none_before lt x xs (λ k d less. h zero (suc k) d (omega arith) (omega (arith, less))),
-    ascends_from_far lt xs (λ i j d low high. h (suc i) (suc j) d (omega (arith, low)) (omega (arith, high))))
+ascends_from_far lt (x ∷ xs) h = (
+  none_before lt x xs (λ k d less. h zero (suc k) d (omega arith) (omega (arith, less))),
+  ascends_from_far lt xs (λ i j d low high. h (suc i) (suc j) d (omega (arith, low)) (omega (arith, high))),
+)
 
 ascends_from_sorted : {A : Type 0} (lt : A → A → Bool) → IsStrictWeakOrder lt → (xs : List A) → IsSortedBy lt xs → Ascends lt xs
 ascends_from_sorted lt o xs up = ascends_from_far lt xs (sorted_far lt o xs up)
@@ -251,6 +252,14 @@ filter_within {A} p q h (x ∷ xs) = go (p x) refl (q x) refl
     go true e false f = rw f (filter_within p q h xs)
     go false e true f = absurd (false≢true (sym e ∙ h x f))
     go false e false f = filter_within p q h xs
+
+pub filter_and : {A : Type 0} (p q both : A → Bool) → ((x : A) → both x ≡ (p x && q x)) → (xs : List A) → filter both xs ≡ filter q (filter p xs)
+filter_and p q both is [] = refl
+filter_and {A} p q both is (x ∷ xs) = rw (is x) (go (p x))
+  where
+    go : (s : Bool) → cond (s && q x) (x ∷ filter both xs) (filter both xs) ≡ filter q (cond s (x ∷ filter p xs) (filter p xs))
+    go true = ap (λ (zs : List A). cond (q x) (x ∷ zs) zs) (filter_and p q both is xs)
+    go false = filter_and p q both is xs
 
 pub filter-map : {A B : Type 0} (f : A → B) (p : B → Bool) (xs : List A) → map f (filter (λ x. p (f x)) xs) ≡ filter p (map f xs)
 filter-map f p [] = refl

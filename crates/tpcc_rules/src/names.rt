@@ -110,8 +110,8 @@ pub struct Namesakes<'r> {
 }
 
 impl<'r> Model for Namesakes<'r> {
-    ghost use Rattle.std.specs.Prelude.{List, map, true, ◌≡◌};
-    ghost use Rattle.std.specs.List.{list_all};
+    ghost use Rattle.std.specs.Prelude.{List, map, ◌≡◌};
+    ghost use Rattle.std.specs.List.{filter};
     ghost use Rattle.std.specs.List.Sorted.{IsSorted};
     ghost use Rattle.deneva_base.specs.declared.rows.Keyed.{Keyed};
     ghost use Rattle.tpcc_rules.specs.Names.{name_order, is_customer};
@@ -120,7 +120,7 @@ impl<'r> Model for Namesakes<'r> {
 
     ghost view = { λ a. map (λ r. r.now) a.sorted.items };
 
-    ghost invariant = { λ a. IsSorted name_order (map (λ r. r.now) a.sorted.items) × (list_all is_customer (map (λ r. r.now) a.sorted.items) ≡ true) };
+    ghost invariant = { λ a. IsSorted name_order (map (λ r. r.now) a.sorted.items) × (filter is_customer (map (λ r. r.now) a.sorted.items) ≡ map (λ r. r.now) a.sorted.items) };
 }
 
 impl<'r> Namesakes<'r> {
@@ -138,10 +138,10 @@ impl<'r> Namesakes<'r> {
     {
         let low = self
             .sorted
-            .partition_point(|row| last_name_place(row, w, d, last) == Ordering::Less);
-        let high = self.sorted.partition_point(|row| last_name_place(row, w, d, last)
-            != Ordering::Greater);
-        &self.sorted[low..high]
+            .partition_point(|row| last_name_place(row, w, d, last).is_lt());
+        let from_first = &self.sorted[low..];
+        let count = from_first.partition_point(|row| last_name_place(row, w, d, last).is_eq());
+        &from_first[..count]
     }
 
     /// The number of the middle one of the customers of a district with a last name, by first names as bytes and then
