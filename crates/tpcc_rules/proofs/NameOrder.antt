@@ -127,33 +127,30 @@ sorted_rows f rows before after is up stable =
 pub rows_sorted : {A : Type 0} (f : A → Keyed) (xs : List A) → IsSortedBy (λ x y. name_before (f x) (f y)) xs → IsSorted name_order (map f xs)
 rows_sorted f [] up k d low high = absurd (omega (arith, high))
 rows_sorted f (x ∷ xs) up k d low high =
-    let less : k + 1 < length (x ∷ xs) = subst (λ n. k + 1 < n) (length-map f (x ∷ xs)) high in
+    let less : k + 1 < length (x ∷ xs) = subst (λ n. k + 1 < n) (length-map (x ∷ xs) f) high in
     rw (get_or-map f (x ∷ xs) (k + 1) x d less, get_or-map f (x ∷ xs) k x d (omega (arith, less))) (up k x low less)
 
 pub references_sorted : {A : Type 0} (f : A → Keyed) (xs : List A) → IsSorted name_order (map f xs) → IsSortedBy (λ x y. name_before (f x) (f y)) xs
 references_sorted f xs up k d low high =
-    let less : k + 1 < length (map f xs) = subst (λ n. k + 1 < n) (sym (length-map f xs)) high in
+    let less : k + 1 < length (map f xs) = subst (λ n. k + 1 < n) (sym (length-map xs f)) high in
     rw (← get_or-map f xs (k + 1) d (f d) high, ← get_or-map f xs k d (f d) (omega (arith, high))) (up k (f d) low less)
 
 -- the rows of a name are what stands between those below and those above
 
 prefix_passes : {A : Type 0} (p : A → Bool) (xs : List A) (n : ℕ) → AllWithin (λ x. p x ≡ true) xs 0 n → AllWithin (λ x. p x ≡ false) xs n (length xs) → n ≤ length xs → filter p xs ≡ take n xs
-prefix_passes p [] n yes no within = sym (nothing n)
-  where
-    nothing : {A : Type 0} (n : ℕ) → take n {A = A} [] ≡ []
-    nothing zero = refl
-    nothing (suc n) = refl
-prefix_passes p (x ∷ xs) zero yes no within = rw (no zero x (omega arith) (omega arith)) (prefix_passes p xs zero (λ k d low high. absurd (omega (arith, high))) (λ k d low high. no (suc k) d (omega arith) (omega (arith, high))) (omega arith))
-prefix_passes p (x ∷ xs) (suc n) yes no within =
-    rw (yes zero x (omega arith) (omega arith))
-    (ap (λ zs. x ∷ zs) (prefix_passes p xs n (λ k d low high. yes (suc k) d (omega arith) (omega (arith, high))) (λ k d low high. no (suc k) d (omega (arith, low)) (omega (arith, high))) (omega (arith, within))))
+prefix_passes p [] zero passing failing within = refl
+prefix_passes p [] (suc n) passing failing within = refl
+prefix_passes p (x ∷ xs) zero passing failing within = rw (failing zero x (omega arith) (omega arith)) (prefix_passes p xs zero (λ k d low high. absurd (omega (arith, high))) (λ k d low high. failing (suc k) d (omega arith) (omega (arith, high))) (omega arith))
+prefix_passes p (x ∷ xs) (suc n) passing failing within =
+    rw (passing zero x (omega arith) (omega arith))
+    (ap (λ zs. x ∷ zs) (prefix_passes p xs n (λ k d low high. passing (suc k) d (omega arith) (omega (arith, high))) (λ k d low high. failing (suc k) d (omega (arith, low)) (omega (arith, high))) (omega (arith, within))))
 
 pub part_passes : {A : Type 0} (p : A → Bool) (xs : List A) (low n : ℕ) → AllWithin (λ x. p x ≡ false) xs 0 low → low ≤ length xs
     → AllWithin (λ x. p x ≡ true) (drop low xs) 0 n → AllWithin (λ x. p x ≡ false) (drop low xs) n (length (drop low xs)) → n ≤ length (drop low xs) → filter p xs ≡ take n (drop low xs)
-part_passes p xs zero n below within yes no most = prefix_passes p xs n yes no most
-part_passes p [] (suc low) n below within yes no most = absurd (omega (arith, within))
-part_passes p (x ∷ xs) (suc low) n below within yes no most =
-    rw (below zero x (omega arith) (omega arith)) (part_passes p xs low n (λ k d from to. below (suc k) d (omega arith) (omega (arith, to))) (omega (arith, within)) yes no most)
+part_passes p xs zero n below within passing failing most = prefix_passes p xs n passing failing most
+part_passes p [] (suc low) n below within passing failing most = absurd (omega (arith, within))
+part_passes p (x ∷ xs) (suc low) n below within passing failing most =
+    rw (below zero x (omega arith) (omega arith)) (part_passes p xs low n (λ k d from to. below (suc k) d (omega arith) (omega (arith, to))) (omega (arith, within)) passing failing most)
 
 then_lt : (o p : Ordering) → is_lt (ordering_then o p) ≡ false → is_lt o ≡ false
 then_lt Less p h = h
@@ -188,12 +185,12 @@ module _ {A : Type 0} (f : A → Keyed) (w d : ℕ) (last : List ℕ) (xs : List
   below_partitioned i j e low high h = lower w d last (f (get_or xs i e)) (f (get_or xs j e)) (far i j e low high) h
 
   pub named_partitioned : (start : ℕ) → start ≤ length xs → AllWithin (λ x. is_lt (last_name_place (f x) w d last) ≡ false) xs start (length xs) → IsPartitionedBy (λ x. is_eq (last_name_place (f x) w d last)) (drop start xs)
-  named_partitioned start within no i j e low high h =
+  named_partitioned start within failing i j e low high h =
       let less : start + j < length xs = let long = length-drop start xs in omega (arith, high, long) in
       let there : is_eq (last_name_place (f (get_or xs (start + j) e)) w d last) ≡ true = rw (← get_or-drop start xs j e) h in
       rw (get_or-drop start xs i e)
       (alike w d last (f (get_or xs (start + i) e)) (f (get_or xs (start + j) e)) (far (start + i) (start + j) e (omega (arith, low)) less)
-      (no (start + i) e (omega arith) (omega (arith, low, less))) there)
+      (failing (start + i) e (omega arith) (omega (arith, low, less))) there)
 
   not_equal : (o : Ordering) → is_lt o ≡ true → is_eq o ≡ false
   not_equal Less h = refl
@@ -206,13 +203,28 @@ module _ {A : Type 0} (f : A → Keyed) (w d : ℕ) (last : List ℕ) (xs : List
       → AllWithin (λ x. is_eq (last_name_place (f x) w d last) ≡ false) (drop start xs) n (length (drop start xs)) → n ≤ length (drop start xs)
       → filter is_customer (map f xs) ≡ map f xs
       → map f (take n (drop start xs)) ≡ namesakes (map f xs) w d last
-  named_part start n within below yes no most alone =
+  named_part start n within below passing failing most alone =
       let named = is_namesake w d last in
       let there = λ (r : Keyed). is_eq (last_name_place r w d last) in
       let ys = map f xs in
-      ap (map f) (sym (part_passes (λ x. there (f x)) xs start n (λ k e from to. not_equal (last_name_place (f (get_or xs k e)) w d last) (below k e from to)) within yes no most))
+      ap (map f) (sym (part_passes (λ x. there (f x)) xs start n (λ k e from to. not_equal (last_name_place (f (get_or xs k e)) w d last) (below k e from to)) within passing failing most))
       ∙ filter-map f there xs
       ∙ ap (filter there) (sym alone)
       ∙ sym (filter_and is_customer there named (named_is w d last) ys)
       ∙ ap (filter named) (sym (sorted_again name_before names_weak ys up))
       ∙ filter_sort name_before names_weak named comes_before (agree w d last) ys
+
+  pub rest_partitioned : (start : ℕ) (rest : List A) → rest ≡ drop start xs → start ≤ length xs
+      → AllWithin (λ x. is_lt (last_name_place (f x) w d last) ≡ false) xs start (length xs) → IsPartitionedBy (λ x. is_eq (last_name_place (f x) w d last)) rest
+  rest_partitioned start rest is within failing = subst (λ (l : List A). IsPartitionedBy (λ x. is_eq (last_name_place (f x) w d last)) l) (sym is) (named_partitioned start within failing)
+
+  pub named_front : (start n : ℕ) (rest : List A) → rest ≡ drop start xs → start ≤ length xs → AllWithin (λ x. is_lt (last_name_place (f x) w d last) ≡ true) xs 0 start
+      → filter is_customer (map f xs) ≡ map f xs
+      → AllWithin (λ x. is_eq (last_name_place (f x) w d last) ≡ true) rest 0 n
+      → AllWithin (λ x. is_eq (last_name_place (f x) w d last) ≡ false) rest n (length rest) → n ≤ length rest
+      → map f (take n rest) ≡ namesakes (map f xs) w d last
+  named_front start n rest is within below alone =
+      subst
+      (λ (l : List A). AllWithin (λ x. is_eq (last_name_place (f x) w d last) ≡ true) l 0 n → AllWithin (λ x. is_eq (last_name_place (f x) w d last) ≡ false) l n (length l) → n ≤ length l
+      → map f (take n l) ≡ namesakes (map f xs) w d last)
+      (sym is) (λ passing failing most. named_part start n within below passing failing most alone)

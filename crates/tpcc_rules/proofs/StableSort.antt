@@ -1,5 +1,6 @@
 -- What a stable sort gives is the sort of the definitions, and what that keeps.
-use Rattle.std.proofs.Common.{◌≡◌, ℕ, zero, suc, ◌+◌, ◌<◌, ◌≤◌, List, [], ◌∷◌, map, length, get_or, Bool, true, false, not, ◌&&◌, cond, ⊤, refl, sym, ap, subst, ◌∙◌, arith}
+use Rattle.std.proofs.Common.{◌≡◌, ℕ, zero, suc, ◌+◌, ◌<◌, ◌≤◌, List, [], ◌∷◌, map, length, get_or, Bool, true, false, not, ◌&&◌, cond, refl, sym, ap, subst, ◌∙◌, arith}
+use Rattle.std.specs.Bool.{⊤}
 use Rattle.std.specs.Cmp.{IsStrictWeakOrder}
 use Rattle.std.specs.List.{filter}
 use Rattle.std.specs.List.Sorted.{IsSortedBy, IsStableBy, ties}
@@ -32,7 +33,7 @@ same_first x y xs ys e = ap (first_or x) e
 same_rest : {A : Type 0} (x y : A) (xs ys : List A) → x ∷ xs ≡ y ∷ ys → xs ≡ ys
 same_rest x y xs ys e = ap rest_of e
 
-is_empty : {A : Type 0} → List A → Bool
+abbrev is_empty : {A : Type 0} → List A → Bool
 is_empty [] = true
 is_empty (x ∷ xs) = false
 
@@ -71,19 +72,19 @@ module _ {A : Type 0} (lt : A → A → Bool) (o : IsStrictWeakOrder lt) where
 
   none_before_inserted : (x a : A) (bs : List A) → lt a x ≡ false → NoneBefore lt x bs → NoneBefore lt x (insert lt a bs)
   none_before_inserted x a [] e h = (e, tt)
-  none_before_inserted x a (b ∷ bs) e h = go (lt b a)
+  none_before_inserted x a (b ∷ bs) e h = go (lt b a) (none_before_inserted x a bs e h.1)
     where
-      go : (t : Bool) → NoneBefore lt x (cond t (b ∷ insert lt a bs) (a ∷ b ∷ bs))
-      go true = (h.0, none_before_inserted x a bs e h.1)
-      go false = (e, h)
+      go : (t : Bool) → NoneBefore lt x (insert lt a bs) → NoneBefore lt x (cond t (b ∷ insert lt a bs) (a ∷ b ∷ bs))
+      go true next = (h.0, next)
+      go false next = (e, h)
 
   inserted_ascends : (a : A) (bs : List A) → Ascends lt bs → Ascends lt (insert lt a bs)
   inserted_ascends a [] h = (tt, tt)
-  inserted_ascends a (b ∷ bs) h = go (lt b a) refl
+  inserted_ascends a (b ∷ bs) h = go (lt b a) refl (inserted_ascends a bs h.1)
     where
-      go : (t : Bool) → lt b a ≡ t → Ascends lt (cond t (b ∷ insert lt a bs) (a ∷ b ∷ bs))
-      go true e = (none_before_inserted b a bs (o.one_way b a e) h.0, inserted_ascends a bs h.1)
-      go false e = ((e, none_before_less a b bs e h.0), h)
+      go : (t : Bool) → lt b a ≡ t → Ascends lt (insert lt a bs) → Ascends lt (cond t (b ∷ insert lt a bs) (a ∷ b ∷ bs))
+      go true e next = (none_before_inserted b a bs (o.one_way b a e) h.0, next)
+      go false e next = ((e, none_before_less a b bs e h.0), h)
 
   sort_ascends : (xs : List A) → Ascends lt (sort lt xs)
   sort_ascends [] = tt
@@ -111,7 +112,7 @@ module _ {A : Type 0} (lt : A → A → Bool) (o : IsStrictWeakOrder lt) where
 
   insert_stable : (x a : A) (bs : List A) → filter (ties lt x) (insert lt a bs) ≡ filter (ties lt x) (a ∷ bs)
   insert_stable x a [] = refl
-  insert_stable x a (b ∷ bs) = go (lt b a) refl
+  insert_stable x a (b ∷ bs) = go (lt b a) refl (insert_stable x a bs)
     where
       swapped : (s t : Bool) (zs : List A) → (s ≡ true → t ≡ true → ⊥) → cond t (b ∷ cond s (a ∷ zs) zs) (cond s (a ∷ zs) zs) ≡ cond s (a ∷ cond t (b ∷ zs) zs) (cond t (b ∷ zs) zs)
       swapped true true zs h = absurd (h refl refl)
@@ -119,11 +120,11 @@ module _ {A : Type 0} (lt : A → A → Bool) (o : IsStrictWeakOrder lt) where
       swapped false true zs h = refl
       swapped false false zs h = refl
 
-      go : (t : Bool) → lt b a ≡ t → filter (ties lt x) (cond t (b ∷ insert lt a bs) (a ∷ b ∷ bs)) ≡ filter (ties lt x) (a ∷ b ∷ bs)
-      go true e =
-          ap (λ (zs : List A). cond (ties lt x b) (b ∷ zs) zs) (insert_stable x a bs)
+      go : (t : Bool) → lt b a ≡ t → filter (ties lt x) (insert lt a bs) ≡ filter (ties lt x) (a ∷ bs) → filter (ties lt x) (cond t (b ∷ insert lt a bs) (a ∷ b ∷ bs)) ≡ filter (ties lt x) (a ∷ b ∷ bs)
+      go true e next =
+          ap (λ (zs : List A). cond (ties lt x b) (b ∷ zs) zs) next
           ∙ swapped (ties lt x a) (ties lt x b) (filter (ties lt x) bs) (λ s t. not_both x a b e s t)
-      go false e = refl
+      go false e next = refl
 
   sort_stable : (x : A) (xs : List A) → filter (ties lt x) (sort lt xs) ≡ filter (ties lt x) xs
   sort_stable x [] = refl
@@ -139,11 +140,11 @@ module _ {A : Type 0} (lt : A → A → Bool) (o : IsStrictWeakOrder lt) where
 
   head_within : (p : A → Bool) (x y : A) (zs ws : List A) → filter p zs ≡ x ∷ ws → NoneBefore lt y zs → lt x y ≡ false
   head_within p x y [] ws e h = absurd (not_empty x ws e)
-  head_within p x y (z ∷ zs) ws e h = go (p z) e
+  head_within p x y (z ∷ zs) ws e h = go (p z) e (λ f. head_within p x y zs ws f h.1)
     where
-      go : (t : Bool) → cond t (z ∷ filter p zs) (filter p zs) ≡ x ∷ ws → lt x y ≡ false
-      go true e = subst (λ (q : A). lt q y ≡ false) (same_first z x (filter p zs) ws e) h.0
-      go false e = head_within p x y zs ws e h.1
+      go : (t : Bool) → cond t (z ∷ filter p zs) (filter p zs) ≡ x ∷ ws → (filter p zs ≡ x ∷ ws → lt x y ≡ false) → lt x y ≡ false
+      go true e next = subst (λ (q : A). lt q y ≡ false) (same_first z x (filter p zs) ws e) h.0
+      go false e next = next e
 
   pub unique : (xs ys : List A) → Ascends lt xs → Ascends lt ys → ((x : A) → filter (ties lt x) ys ≡ filter (ties lt x) xs) → ys ≡ xs
   unique [] [] up vp h = refl
@@ -197,11 +198,11 @@ module _ {A : Type 0} (lt : A → A → Bool) (o : IsStrictWeakOrder lt) where
   module _ (p : A → Bool) (lte : A → A → Bool) (agree : (x y : A) → p x ≡ true → p y ≡ true → lt x y ≡ lte x y) where
     first_kept : (a : A) (bs : List A) → p a ≡ true → NoneBefore lt a bs → insert lte a (filter p bs) ≡ a ∷ filter p bs
     first_kept a [] at h = refl
-    first_kept a (b ∷ bs) at h = go (p b) refl
+    first_kept a (b ∷ bs) at h = go (p b) refl (first_kept a bs at h.1)
       where
-        go : (t : Bool) → p b ≡ t → insert lte a (cond t (b ∷ filter p bs) (filter p bs)) ≡ a ∷ cond t (b ∷ filter p bs) (filter p bs)
-        go true e = rw (sym (agree b a e at) ∙ h.0) refl
-        go false e = first_kept a bs at h.1
+        go : (t : Bool) → p b ≡ t → insert lte a (filter p bs) ≡ a ∷ filter p bs → insert lte a (cond t (b ∷ filter p bs) (filter p bs)) ≡ a ∷ cond t (b ∷ filter p bs) (filter p bs)
+        go true e next = rw (sym (agree b a e at) ∙ h.0) refl
+        go false e next = next
 
     filter_insert : (a : A) (bs : List A) → Ascends lt bs → filter p (insert lt a bs) ≡ cond (p a) (insert lte a (filter p bs)) (filter p bs)
     filter_insert a [] h = refl
@@ -232,11 +233,11 @@ module _ {A : Type 0} (lt : A → A → Bool) (o : IsStrictWeakOrder lt) where
 -- a sort by what a function gives
 insert-map : {A B : Type 0} (f : A → B) (lt : B → B → Bool) (a : A) (bs : List A) → map f (insert (λ x y. lt (f x) (f y)) a bs) ≡ insert lt (f a) (map f bs)
 insert-map f lt a [] = refl
-insert-map {A} f lt a (b ∷ bs) = go (lt (f b) (f a))
+insert-map {A} f lt a (b ∷ bs) = go (lt (f b) (f a)) (insert-map f lt a bs)
   where
-    go : (t : Bool) → map f (cond t (b ∷ insert (λ x y. lt (f x) (f y)) a bs) (a ∷ b ∷ bs)) ≡ cond t (f b ∷ insert lt (f a) (map f bs)) (f a ∷ f b ∷ map f bs)
-    go true = ap (λ zs. f b ∷ zs) (insert-map f lt a bs)
-    go false = refl
+    go : (t : Bool) → map f (insert (λ x y. lt (f x) (f y)) a bs) ≡ insert lt (f a) (map f bs) → map f (cond t (b ∷ insert (λ x y. lt (f x) (f y)) a bs) (a ∷ b ∷ bs)) ≡ cond t (f b ∷ insert lt (f a) (map f bs)) (f a ∷ f b ∷ map f bs)
+    go true next = ap (λ zs. f b ∷ zs) next
+    go false next = refl
 
 pub sort-map : {A B : Type 0} (f : A → B) (lt : B → B → Bool) (xs : List A) → map f (sort (λ x y. lt (f x) (f y)) xs) ≡ sort lt (map f xs)
 sort-map f lt [] = refl
@@ -245,26 +246,26 @@ sort-map f lt (x ∷ xs) = insert-map f lt x (sort (λ y z. lt (f y) (f z)) xs) 
 -- a test within another
 pub filter_within : {A : Type 0} (p q : A → Bool) → ((x : A) → q x ≡ true → p x ≡ true) → (xs : List A) → filter q (filter p xs) ≡ filter q xs
 filter_within p q h [] = refl
-filter_within {A} p q h (x ∷ xs) = go (p x) refl (q x) refl
+filter_within {A} p q h (x ∷ xs) = go (p x) refl (q x) refl (filter_within p q h xs)
   where
-    go : (s : Bool) → p x ≡ s → (t : Bool) → q x ≡ t → filter q (cond s (x ∷ filter p xs) (filter p xs)) ≡ cond t (x ∷ filter q xs) (filter q xs)
-    go true e true f = rw f (ap (λ (zs : List A). x ∷ zs) (filter_within p q h xs))
-    go true e false f = rw f (filter_within p q h xs)
-    go false e true f = absurd (false≢true (sym e ∙ h x f))
-    go false e false f = filter_within p q h xs
+    go : (s : Bool) → p x ≡ s → (t : Bool) → q x ≡ t → filter q (filter p xs) ≡ filter q xs → filter q (cond s (x ∷ filter p xs) (filter p xs)) ≡ cond t (x ∷ filter q xs) (filter q xs)
+    go true e true f next = rw f (ap (λ (zs : List A). x ∷ zs) next)
+    go true e false f next = rw f next
+    go false e true f next = absurd (false≢true (sym e ∙ h x f))
+    go false e false f next = next
 
 pub filter_and : {A : Type 0} (p q both : A → Bool) → ((x : A) → both x ≡ (p x && q x)) → (xs : List A) → filter both xs ≡ filter q (filter p xs)
 filter_and p q both is [] = refl
-filter_and {A} p q both is (x ∷ xs) = rw (is x) (go (p x))
+filter_and {A} p q both is (x ∷ xs) = rw (is x) (go (p x) (filter_and p q both is xs))
   where
-    go : (s : Bool) → cond (s && q x) (x ∷ filter both xs) (filter both xs) ≡ filter q (cond s (x ∷ filter p xs) (filter p xs))
-    go true = ap (λ (zs : List A). cond (q x) (x ∷ zs) zs) (filter_and p q both is xs)
-    go false = filter_and p q both is xs
+    go : (s : Bool) → filter both xs ≡ filter q (filter p xs) → cond (s && q x) (x ∷ filter both xs) (filter both xs) ≡ filter q (cond s (x ∷ filter p xs) (filter p xs))
+    go true next = ap (λ (zs : List A). cond (q x) (x ∷ zs) zs) next
+    go false next = next
 
 pub filter-map : {A B : Type 0} (f : A → B) (p : B → Bool) (xs : List A) → map f (filter (λ x. p (f x)) xs) ≡ filter p (map f xs)
 filter-map f p [] = refl
-filter-map {A} {B} f p (x ∷ xs) = go (p (f x))
+filter-map {A} {B} f p (x ∷ xs) = go (p (f x)) (filter-map f p xs)
   where
-    go : (t : Bool) → map f (cond t (x ∷ filter (λ y. p (f y)) xs) (filter (λ y. p (f y)) xs)) ≡ cond t (f x ∷ filter p (map f xs)) (filter p (map f xs))
-    go true = ap (λ (zs : List B). f x ∷ zs) (filter-map f p xs)
-    go false = filter-map f p xs
+    go : (t : Bool) → map f (filter (λ y. p (f y)) xs) ≡ filter p (map f xs) → map f (cond t (x ∷ filter (λ y. p (f y)) xs) (filter (λ y. p (f y)) xs)) ≡ cond t (f x ∷ filter p (map f xs)) (filter p (map f xs))
+    go true next = ap (λ (zs : List B). f x ∷ zs) next
+    go false next = next

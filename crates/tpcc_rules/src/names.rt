@@ -136,10 +136,9 @@ impl<'r> Namesakes<'r> {
     fn named(&self, w: u32, d: u32, last: &[u8]) -> &[&'r Keyed]
         ensures { map (λ r. r.now) result.now ≡ names.namesakes self.now w d last.now }
     {
-        let low = self
-            .sorted
-            .partition_point(|row| last_name_place(row, w, d, last).is_lt());
-        let from_first = &self.sorted[low..];
+        let sorted = self.sorted.as_slice();
+        let low = sorted.partition_point(|row| last_name_place(row, w, d, last).is_lt());
+        let (_, from_first) = sorted.split_at(low);
         let count = from_first.partition_point(|row| last_name_place(row, w, d, last).is_eq());
         &from_first[..count]
     }
@@ -151,7 +150,8 @@ impl<'r> Namesakes<'r> {
     {
         let named = self.named(w, d, last);
         let place = named.len().div_ceil(2).saturating_sub(1);
-        named.get(place).map(|row| row.key.c)
+        let row = named.get(place)?;
+        Some(row.key.c)
     }
 }
 
