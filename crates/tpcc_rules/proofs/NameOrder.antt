@@ -1,5 +1,5 @@
 -- Customers in the order of their names.
-use Rattle.std.proofs.Common.{◌≡◌, ℕ, zero, suc, ◌+◌, ◌-◌, ◌/◌, ◌<◌, ◌≤◌, ◌==◌, List, [], ◌∷◌, map, length, get_or, take, drop, Bool, true, false, not, ◌&&◌, cond, refl, sym, ap, subst, ◌∙◌, arith}
+use Rattle.std.proofs.Common.{◌≡◌, ℕ, zero, suc, ◌+◌, ◌-◌, ◌/◌, ◌<◌, ◌≤◌, ◌==◌, List, [], ◌∷◌, map, length, get_or, take, drop, Bool, true, false, not, ◌&&◌, cond, Some, refl, sym, ap, subst, ◌∙◌, arith}
 use Rattle.std.specs.Prelude.{option_map, slice_get}
 use Rattle.std.specs.Cmp.{IsTotalOrder, IsStrictWeakOrder}
 use Rattle.std.specs.Cmp.Lexicographic.{slice_cmp}
@@ -15,7 +15,7 @@ use Rattle.std.proofs.lemmas.Cmp.{nat_cmp_total, nat_list_cmp_total, on_total, t
 use Rattle.std.proofs.lemmas.List.{get_or-drop, get_or-map, length-map, length-drop}
 use Rattle.std.proofs.lemmas.List.Sorted.{ranks_by, sorted_far}
 use Rattle.std.proofs.lemmas.Map.Text.{is_eq-slice_cmp}
-use Rattle.std.proofs.lemmas.Slice.Eq.{bytes_eq-Decides}
+use Rattle.std.proofs.lemmas.Option.{slice_get-map}
 use Rattle.deneva_base.specs.Lists.{sort}
 use Rattle.deneva_base.specs.declared.keys.Key.{Key}
 use Rattle.deneva_base.specs.declared.rows.Cell.{Cell}
@@ -228,3 +228,10 @@ module _ {A : Type 0} (f : A → Keyed) (w d : ℕ) (last : List ℕ) (xs : List
       (λ (l : List A). AllWithin (λ x. is_eq (last_name_place (f x) w d last) ≡ true) l 0 n → AllWithin (λ x. is_eq (last_name_place (f x) w d last) ≡ false) l n (length l) → n ≤ length l
       → map f (take n l) ≡ namesakes (map f xs) w d last)
       (sym is) (λ passing failing most. named_part start n within below passing failing most alone)
+
+-- the number of the middle one
+pub middle_is : {A : Type 0} (f : A → Keyed) (xs : List A) (rows : List Keyed) (w d : ℕ) (last : List ℕ) (place : ℕ) (x : A) → map f xs ≡ namesakes rows w d last
+    → place ≡ (length xs + 1) / 2 - 1 → slice_get xs place ≡ Some x → Some (f x).key.c ≡ by_last_name rows w d last
+middle_is f xs rows w d last place x is at got =
+    let here : slice_get (map f xs) ((length (map f xs) + 1) / 2 - 1) ≡ Some (f x) = rw (length-map xs f, ← at) (slice_get-map f xs place ∙ ap (option_map f) got) in
+    sym (subst (λ (named : List Keyed). option_map (λ r. r.key.c) (slice_get named ((length named + 1) / 2 - 1)) ≡ Some (f x).key.c) is (ap (option_map (λ (r : Keyed). r.key.c)) here))
