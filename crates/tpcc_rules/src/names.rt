@@ -6,6 +6,7 @@ ghost use Rattle.tpcc_rules.specs.Tables.{c_first, c_last};
 ghost use Rattle.tpcc_rules.specs.Columns as columns;
 
 use crate::cells::text_at;
+use crate::tables::{CUSTOMER, CUSTOMER_FIRST, CUSTOMER_LAST};
 use deneva_base::{ByteList, Keyed, NoMemory};
 use std::alloc::Global;
 use std::cmp::Ordering;
@@ -54,13 +55,13 @@ pub fn nurand(_a: u32, x: u32, y: u32, c: u32, first: u32, second: u32) -> u32
 fn last_of(row: &Keyed) -> &[u8]
     ensures { result.now ≡ columns.text_at row.now.row c_last }
 {
-    text_at(row.row.as_slice(), 1)
+    text_at(row.row.as_slice(), CUSTOMER_LAST)
 }
 
 fn first_of(row: &Keyed) -> &[u8]
     ensures { result.now ≡ columns.text_at row.now.row c_first }
 {
-    text_at(row.row.as_slice(), 0)
+    text_at(row.row.as_slice(), CUSTOMER_FIRST)
 }
 
 fn last_name_place(row: &Keyed, w: u32, d: u32, last: &[u8]) -> Ordering
@@ -94,7 +95,7 @@ fn customers(alloc: Global, rows: &[Keyed]) -> Result<Vec<&Keyed>, NoMemory>
 {
     let mut list = Vec::new(alloc);
     for row in rows {
-        if row.key.table == 3 {
+        if row.key.table == CUSTOMER {
             list.push(row)?;
         }
     }
