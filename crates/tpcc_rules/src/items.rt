@@ -56,7 +56,7 @@ fn found_by_scan(items: &[Item], number: u32) -> Option<&Item>
     items.iter().find(|item| item.number == number)
 }
 
-fn has_item(items: &[Item], number: u32) -> bool
+fn has_number(items: &[Item], number: u32) -> bool
     ensures { result ≡ has_item items.now number }
 {
     items.iter().any(|item| item.number == number)
@@ -68,7 +68,7 @@ fn are_apart(items: &[Item]) -> bool
 {
     let mut rest = items;
     while let Some((first, more)) = rest.split_first() {
-        if has_item(more, first.number) {
+        if has_number(more, first.number) {
             return false;
         }
         rest = more;
@@ -132,6 +132,12 @@ impl ItemList {
         } else {
             found_by_scan(items, number)
         }
+    }
+
+    pub fn has(&self, number: u32) -> bool
+        ensures { result ≡ has_item self.now number }
+    {
+        self.find(number).is_some()
     }
 
     /// Whether no two items have one number. It takes time by the square of their count where the numbers do not rise.

@@ -5,10 +5,15 @@ mod cells;
 mod columns;
 mod effects;
 mod items;
+#[cfg(test)]
+mod order_tests;
+mod orders;
+#[cfg(test)]
+mod payment_tests;
 mod payments;
 mod programs;
 mod read_rows;
-mod stand_in;
+mod stocks;
 mod tables;
 
 pub use cells::{number_at, raised_copy, raised_row, text_at};
@@ -16,10 +21,11 @@ pub use columns::{Column, fits_all};
 use deneva_base::Items;
 pub use effects::{Effect, Reason, Verdict};
 pub use items::ItemList;
+pub use orders::new_order_effect;
 pub use payments::payment_effect;
 pub use programs::{Item, Line, NewOrder, Payment};
 pub use read_rows::{ReadRow, cells_of, row_among, rows_lying};
-pub use stand_in::{new_order_effect, stock_keys};
+pub use stocks::stock_keys;
 pub use tables::{
     columns_of, customer_key, district_key, history_key, is_loaded_row, is_table_row, line_key,
     loaded_columns_of, new_order_key, order_key, stock_key, warehouse_key,

@@ -12,7 +12,11 @@ use crate::columns::fits_all;
 use crate::effects::{Effect, Reason, Verdict};
 use crate::programs::Payment;
 use crate::read_rows::{ReadRow, cells_of};
-use crate::tables::{columns_of, customer_key, district_key, history_key, warehouse_key};
+use crate::tables::{
+    CUSTOMER, CUSTOMER_BALANCE, CUSTOMER_COUNT, CUSTOMER_CREDIT, CUSTOMER_DATA, CUSTOMER_YTD,
+    DISTRICT, DISTRICT_NAME, DISTRICT_YTD, WAREHOUSE, WAREHOUSE_NAME, WAREHOUSE_YTD, columns_of,
+    customer_key, district_key, history_key, warehouse_key,
+};
 use deneva_base::{ByteList, Cell, CellList, Key, Keyed, NoMemory, Row, RowList, TxnId};
 use itoa::{Buffer, Integer};
 use std::alloc::Global;
@@ -56,16 +60,16 @@ fn note_of(alloc: Global, p: &Payment) -> Result<ByteList, NoMemory>
 fn noted_cells(alloc: Global, p: &Payment, cells: CellList) -> Result<CellList, NoMemory>
     ensures { IfOk result (λ new. new ≡ noted p.now cells) }
 {
-    if text_at(cells.as_slice(), 2) != b"BC".as_slice() {
+    if text_at(cells.as_slice(), CUSTOMER_CREDIT) != b"BC".as_slice() {
         return Ok(cells);
     }
     let mut text = note_of(alloc, p)?;
-    text.extend(text_at(cells.as_slice(), 7))?;
+    text.extend(text_at(cells.as_slice(), CUSTOMER_DATA))?;
     let mut text = text.into_vec();
     text.truncate(500);
     let mut cells = cells.into_vec();
-    if cells.len() > 7 {
-        cells[7] = Cell::Text(ByteList::of(text));
+    if cells.len() > CUSTOMER_DATA {
+        cells[CUSTOMER_DATA] = Cell::Text(ByteList::of(text));
     }
     Ok(CellList::of(cells))
 }
@@ -79,17 +83,17 @@ pub fn customer_copy(
     ensures { IfOk result (λ copy. MatchOption copy (fits_all (tables.columns 3) (paid p.now cells.now) ≡ false)
         (λ new. (new ≡ paid p.now cells.now) × (fits_all (tables.columns 3) new ≡ true))) }
 {
-    let Some(cells) = lowered_copy(alloc, cells, 4, p.amount)? else {
+    let Some(cells) = lowered_copy(alloc, cells, CUSTOMER_BALANCE, p.amount)? else {
         return Ok(None);
     };
-    let Some(cells) = raised_copy(alloc, cells.as_slice(), 5, p.amount)? else {
+    let Some(cells) = raised_copy(alloc, cells.as_slice(), CUSTOMER_YTD, p.amount)? else {
         return Ok(None);
     };
-    let Some(cells) = raised_copy(alloc, cells.as_slice(), 6, 1)? else {
+    let Some(cells) = raised_copy(alloc, cells.as_slice(), CUSTOMER_COUNT, 1)? else {
         return Ok(None);
     };
     let cells = noted_cells(alloc, p, cells)?;
-    if fits_all(columns_of(3), cells.as_slice()) {
+    if fits_all(columns_of(CUSTOMER), cells.as_slice()) {
         Ok(Some(cells))
     } else {
         Ok(None)
@@ -123,7 +127,7 @@ fn history_row(
 }
 
 /// An effect that is rolled back.
-fn rolled_back(alloc: Global, reason: Reason) -> Effect
+pub fn rolled_back(alloc: Global, reason: Reason) -> Effect
     ensures { result ≡ effects.rolled_back reason }
 {
     Effect {
@@ -135,7 +139,7 @@ fn rolled_back(alloc: Global, reason: Reason) -> Effect
 }
 
 /// A row with its key.
-fn keyed(alloc: Global, key: Key, cells: CellList) -> Result<Keyed, NoMemory>
+pub fn keyed(alloc: Global, key: Key, cells: CellList) -> Result<Keyed, NoMemory>
     ensures { IfOk result (λ r. r ≡ record { key = key; row = cells }) }
 {
     let row = Row::of(alloc, cells)?;
@@ -156,17 +160,24 @@ pub fn payment_effect(
     let at_customer = customer_key(p.cw, p.cd, p.c);
     let warehouse = cells_of(rows, at_warehouse);
     let district = cells_of(rows, at_district);
-    let Some(new_warehouse) = raised_row(alloc, 1, warehouse, 2, p.amount)? else {
+    let Some(new_warehouse) = raised_row(alloc, WAREHOUSE, warehouse, WAREHOUSE_YTD, p.amount)?
+    else {
         return Ok(rolled_back(alloc, Reason::Range { key: at_warehouse }));
     };
-    let Some(new_district) = raised_row(alloc, 2, district, 2, p.amount)? else {
+    let Some(new_district) = raised_row(alloc, DISTRICT, district, DISTRICT_YTD, p.amount)? else {
         return Ok(rolled_back(alloc, Reason::Range { key: at_district }));
     };
     let Some(new_customer) = customer_copy(alloc, p, cells_of(rows, at_customer))? else {
         return Ok(rolled_back(alloc, Reason::Range { key: at_customer }));
     };
-    let answer = number_at(new_customer.as_slice(), 4);
-    let history = history_row(alloc, id, p, text_at(warehouse, 0), text_at(district, 0))?;
+    let answer = number_at(new_customer.as_slice(), CUSTOMER_BALANCE);
+    let history = history_row(
+        alloc,
+        id,
+        p,
+        text_at(warehouse, WAREHOUSE_NAME),
+        text_at(district, DISTRICT_NAME),
+    )?;
     let writes = vec![in alloc;
         keyed(alloc, at_warehouse, new_warehouse)?,
         keyed(alloc, at_district, new_district)?,
