@@ -1,6 +1,6 @@
 -- The keys of stock rows, each once.
-use Rattle.std.proofs.Common.{◌≡◌, ◌∙◌, ℕ, zero, suc, ⊤, ◌+◌, ◌<◌, List, [], ◌∷◌, ◌++◌, map, Bool, true, false, not, cond, ◌&&◌, ◌||◌, length, get_or, take, All, Option, Some, None, refl, sym, ap, subst, arith}
-use Rattle.std.specs.Prelude.{option_map, is_some, ◌==◌}
+use Rattle.std.proofs.Common.{◌≡◌, ◌∙◌, ℕ, zero, suc, ◌+◌, ◌<◌, List, [], ◌∷◌, ◌++◌, map, Bool, true, false, not, cond, ◌&&◌, ◌||◌, length, get_or, take, All, Option, Some, None, refl, sym, ap, subst, arith}
+use Rattle.std.specs.Prelude.{option_map, is_some, ⊤, ◌==◌}
 use Rattle.std.specs.List.{filter, list_any}
 use Rattle.std.proofs.Math.Seq.{take-suc}
 use Rattle.std.proofs.lemmas.Bool.{false≢true}
