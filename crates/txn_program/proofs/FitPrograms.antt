@@ -1,6 +1,6 @@
 -- What holds of every transaction of a valid workload.
 use Rattle.std.proofs.Common.{◌≡◌, ◌⊎◌, ◌≤◌, ◌-◌, ℕ, List, [], ◌∷◌, map, length, Bool, true, false, ◌==◌, Some, refl, sym, ap, ◌∙◌, subst, inl, inr, ⊎_elim, arith, set}
-use Rattle.std.specs.Prelude.{if◌then◌else◌, nat_le, pos}
+use Rattle.std.specs.Prelude.{if◌then◌else◌, pos}
 use Rattle.std.specs.List.{list_all}
 use Rattle.std.proofs.lemmas.Bool.{and_parts, and_from, leb-true, eqb-true, eq-eqb, cases_lt, true≢false}
 use Rattle.std.proofs.lemmas.List.{length-map, length-set, get_or_past}
