@@ -1,6 +1,6 @@
 -- What holds of every transaction of a valid workload.
 use Rattle.std.proofs.Common.{◌≡◌, ◌⊎◌, ◌≤◌, ◌-◌, ℕ, List, [], ◌∷◌, map, length, Bool, true, false, ◌==◌, Some, refl, sym, ap, ◌∙◌, subst, inl, inr, ⊎_elim, arith, set}
-use Rattle.std.specs.Prelude.{if◌then◌else◌, nat_le, pos}
+use Rattle.std.specs.Prelude.{if◌then◌else◌, pos}
 use Rattle.std.specs.List.{list_all}
 use Rattle.std.proofs.lemmas.Bool.{and_parts, and_from, leb-true, eqb-true, eq-eqb, cases_lt, true≢false}
 use Rattle.std.proofs.lemmas.List.{length-map, length-set, get_or_past}
@@ -148,12 +148,6 @@ read_row load list rows a fit i r =
     let there = row_there a.key rows (subst (IsIn a.key) (sym fit.0) keys) in
     all_at (λ (k : Keyed). is_well_formed load k.key k.row) _ rows fit.1 there
 
--- a row that TPC-C writes
-written_row : (load : Load) (w : Keyed) (a : Access) → (1 ≤ a.key.table) × (a.key.table ≤ 4) → a.key ≡ w.key → is_table_row w.key w.row ≡ true → is_well_formed load w.key w.row ≡ true
-written_row load w a t e h =
-    let same = ap (λ (k : Key). k.table) e in
-    table_row_fits load w.key w.row (omega (arith, same, t.0)) (omega (arith, same, t.1)) h
-
 pub well_formed_write : (load : Load) (id : TxnId) (program : Program) (rows : List Keyed) (w : Keyed) → Fits load program → FitReads load (accesses load program) rows → IsIn w (effect load id program rows).writes → is_well_formed load w.key w.row ≡ true
 well_formed_write load id (Ycsb steps) rows w f fit i =
     let n = in_filter_map_from (written rows) w steps i in
@@ -166,13 +160,9 @@ well_formed_write load id (Ycsb steps) rows w f fit i =
         (row_with_text load.fields (row_at rows (ycsb_key key)) put.field put.text (and_parts _ _ valid).1 (read_row load (map access_of steps) rows _ fit j refl))
     by_act key (Put row) e valid j = subst (λ (v : Keyed). is_well_formed load v.key v.row ≡ true) (same_Some _ _ e) valid
 well_formed_write load id (Payment p) rows w f fit i =
-    let from = writes_from _ (paying id p rows) (tpcc.payment_settles p id rows) w i in
-    let a = tpcc.payment_written p id rows w from.0 in
-    written_row load w a.0 (tpcc.payment_table p a.0 a.1) a.2 from.1
+    table_row_fits load w.key w.row (writes_from _ (paying id p rows) (tpcc.payment_settles p id rows) w i).1
 well_formed_write load id (NewOrder o) rows w f fit i =
-    let from = writes_from _ (ordering load.items id o rows) (tpcc.order_settles load.items o id rows) w i in
-    let a = tpcc.order_written load.items o id rows w from.0 in
-    written_row load w a.0 (tpcc.order_table load.items o a.0 a.1) a.2 from.1
+    table_row_fits load w.key w.row (writes_from _ (ordering load.items id o rows) (tpcc.order_settles load.items o id rows) w i).1
 
 -- a YCSB transaction appends nothing and commits
 
@@ -212,12 +202,8 @@ append_at_participant load id (NewOrder o) rows w parts h i =
 
 pub well_formed_append : (load : Load) (id : TxnId) (program : Program) (rows : List Keyed) (w : Keyed) → IsIn w (effect load id program rows).appends → is_well_formed load w.key w.row ≡ true
 well_formed_append load id (Ycsb steps) rows w i = absurd i
-well_formed_append load id (Payment p) rows w i =
-    let a = appended_from load id p rows w i in
-    let table = ap (λ (k : Key). k.table) a.0 in
-    table_row_fits load w.key w.row (omega (arith, table)) (omega (arith, table)) a.1
-well_formed_append load id (NewOrder o) rows w i =
-    let t = ordered_from load id o rows w i in table_row_fits load w.key w.row (omega (arith, t.0)) t.1 t.3
+well_formed_append load id (Payment p) rows w i = table_row_fits load w.key w.row (appended_from load id p rows w i).1
+well_formed_append load id (NewOrder o) rows w i = table_row_fits load w.key w.row (ordered_from load id o rows w i).3
 
 -- an effect lists no rows and answers 0
 abbrev pub LeavesNothing : Effect → Type 0

@@ -1,5 +1,5 @@
 -- The rows that valid payments and orders access are loaded.
-use Rattle.std.proofs.Common.{◌≡◌, ◌≤◌, List, [], ◌∷◌, map, length, true, sym, subst, ⊎_elim}
+use Rattle.std.proofs.Common.{◌≡◌, ◌≤◌, List, length, true, sym, subst, ⊎_elim}
 use Rattle.std.specs.Prelude.{nat_le, not, ◌||◌, ◌&&◌}
 use Rattle.std.specs.List.{filter, list_all}
 use Rattle.std.proofs.lemmas.Bool.{and_parts, leb-true}

@@ -11,7 +11,7 @@ use Rattle.deneva_base.specs.declared.rows.Keyed.{Keyed}
 use Rattle.tpcc_rules.specs.Columns.{number_64, fits, fits_all}
 use Rattle.tpcc_rules.specs.declared.columns.Column.{Column}
 use Rattle.tpcc_rules.specs.declared.columns.Column.TheVariants.{Between, UpTo}
-use Rattle.tpcc_rules.specs.Tables.{columns, loaded_columns, is_loaded_row, is_table_row, rate}
+use Rattle.tpcc_rules.specs.Tables.{columns, loaded_columns, is_loaded_row, is_table, is_table_row, rate}
 use Rattle.txn_program.specs.declared.programs.Load.{Load}
 use Rattle.txn_program.specs.declared.programs.WorkKind.{WorkKind}
 use Rattle.txn_program.specs.declared.programs.WorkKind.TheVariants.{Ycsb, Tpcc}
@@ -22,8 +22,10 @@ use Rattle.txn_program.proofs.Members.{all_at}
 use Rattle.txn_program.proofs.DistinctLists.{distinct_from_test}
 
 -- a row of a table of TPC-C is well formed
-pub table_row_fits : (load : Load) (key : Key) (row : Row) → 1 ≤ key.table → key.table ≤ 8 → is_table_row key row ≡ true → is_well_formed load key row ≡ true
-table_row_fits load key row some few h = rw (ne_eqb key.table 0 (λ e. omega (arith, e, some)), le-leb key.table 8 few) h
+pub table_row_fits : (load : Load) (key : Key) (row : Row) → is_table_row key row ≡ true → is_well_formed load key row ≡ true
+table_row_fits load key row h =
+    let some = leb-true 1 key.table (and_parts (nat_le 1 key.table) (nat_le key.table 8) (and_parts (is_table key.table) (fits_all (columns key.table) row) h).0).0 in
+    rw (ne_eqb key.table 0 (λ e. omega (arith, e, some))) h
 
 -- what fits one column fits the other
 abbrev Widens : Column → Column → Type 0
@@ -73,6 +75,10 @@ columns_widen table row h = elim (cases_Bool (table == 1)) [
   ]
 ]
 
+loaded_is_table_row : (key : Key) (row : Row) → is_loaded_row key row ≡ true → is_table_row key row ≡ true
+loaded_is_table_row key row h =
+    let p = and_parts (is_table key.table) (fits_all (loaded_columns key.table) row) h in and_from _ _ p.0 (columns_widen key.table row p.1)
+
 tpcc_table : (key : Key) → is_tpcc_key key ≡ true → (1 ≤ key.table) × (key.table ≤ 4)
 tpcc_table key h = elim (cases_Bool (key.table == 1)) [
   | inl one ↦ let e = eqb-true _ _ one in (omega (arith, e), omega (arith, e))
@@ -108,7 +114,7 @@ module _ (load : Load) where
     λ r v.
         let p = and_parts (is_tpcc_key r.key) (is_loaded_row r.key r.row) (and_parts _ _ v).0 in
         let t = tpcc_table r.key p.0 in
-        (table_row_fits load r.key r.row t.0 (omega (arith, t.1)) (columns_widen r.key.table r.row p.1), t.1),
+        (table_row_fits load r.key r.row (loaded_is_table_row r.key r.row p.1), t.1),
   )
 
   module _ (valid : is_valid_load load ≡ true) where

@@ -1,14 +1,14 @@
 //! Rules of TPC-C by themselves.
-ghost use Rattle.std.specs.Prelude.{◌≡◌, codes, pos, Some, None};
+ghost use Rattle.std.specs.Prelude.{◌≡◌, codes, Some, None};
 ghost use Rattle.tpcc_rules.specs.Names.{by_last_name, last_name, nurand};
 ghost use Rattle.tpcc_rules.specs.NewOrders.{left_after};
 ghost use Rattle.worked_examples.specs.TpccLoads.{named, one_named, three_named, two_alike, two_named};
 
 /// A stock of 15 gives 5; one of 14 and one of 5 are refilled.
 pub fn stock_is_refilled()
-    ensures enough { left_after (pos 15) 5 ≡ pos 10 }
-    ensures few { left_after (pos 14) 5 ≡ pos 100 }
-    ensures all { left_after (pos 5) 5 ≡ pos 91 }
+    ensures enough { left_after 15 5 ≡ 10 }
+    ensures few { left_after 14 5 ≡ 100 }
+    ensures all { left_after 5 5 ≡ 91 }
 {}
 
 /// Of namesakes the middle one by first names is meant, and the lower one of two.
