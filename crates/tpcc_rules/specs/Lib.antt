@@ -1,5 +1,6 @@
 pub mod Columns
 pub mod Effects
+pub mod Items
 pub mod Names
 pub mod NewOrders
 pub mod Payments

@@ -1,11 +1,13 @@
 //! The cells of a row.
-ghost use Rattle.std.specs.Prelude.{◌≡◌, ◌+ℤ◌, ◌-ℤ◌, FitsSigned, IfOk, MatchOption, true, false};
+ghost use Rattle.std.specs.Prelude.{◌≡◌, ◌+ℤ◌, ◌-ℤ◌, FitsSigned, IfOk, MatchOption, slice_get, true, false};
 ghost use Rattle.std.specs.Int.{w64};
 ghost use Rattle.tpcc_rules.specs.Columns as columns;
-ghost use Rattle.tpcc_rules.specs.Columns.{fits, fits_all, Between, UpTo, Credit, number_64};
+ghost use Rattle.tpcc_rules.specs.Columns.{fits_all, is_narrow};
 ghost use Rattle.tpcc_rules.specs.Effects.{lowered, raised};
 ghost use Rattle.tpcc_rules.specs.Tables as tables;
 
+use crate::columns::fits_all;
+use crate::tables::columns_of;
 use deneva_base::{Cell, CellList, NoMemory};
 use std::alloc::Global;
 
@@ -67,104 +69,22 @@ pub fn lowered_copy(
     Ok(Some(CellList::of(copy)))
 }
 
-fn is_between(cell: &Cell, low: i64, high: i64) -> bool
-    ensures { result ≡ fits (Between low high) cell.now }
+/// The cells of a row of a table with the number at a place raised, and none where no row of the table has them.
+pub fn raised_row(
+    alloc: Global,
+    table: u8,
+    cells: &[Cell],
+    place: usize,
+    by: i64,
+) -> Result<Option<CellList>, NoMemory>
+    requires { is_narrow (slice_get (tables.columns table) place) ≡ true }
+    ensures { IfOk result (λ copy. MatchOption copy (fits_all (tables.columns table) (raised place by cells.now) ≡ false)
+        (λ new. (new ≡ raised place by cells.now) × (fits_all (tables.columns table) new ≡ true))) }
 {
-    match cell {
-        Cell::Num(number) => low <= *number && *number <= high,
-        Cell::Text(_) => false,
-    }
-}
-
-fn is_up_to(cell: &Cell, most: usize) -> bool
-    ensures { result ≡ fits (UpTo most) cell.now }
-{
-    match cell {
-        Cell::Num(_) => false,
-        Cell::Text(text) => text.len() <= most,
-    }
-}
-
-fn is_credit(cell: &Cell) -> bool
-    ensures { result ≡ fits Credit cell.now }
-{
-    match cell {
-        Cell::Num(_) => false,
-        Cell::Text(text) => text.as_slice() == b"GC".as_slice()
-            || text.as_slice() == b"BC".as_slice(),
-    }
-}
-
-/// Whether a row of CUSTOMER has the cells of its table.
-pub fn is_customer_row(row: &[Cell]) -> bool
-    ensures { result ≡ fits_all (tables.columns 3) row.now }
-{
-    match row {
-        [first, last, credit, discount, balance, ytd, count, data] => {
-            is_up_to(first, 16)
-                && (is_up_to(last, 16)
-                    && (is_credit(credit)
-                        && (is_between(discount, 0, 10_000)
-                            && (is_between(balance, i64::MIN, i64::MAX)
-                                && (is_between(ytd, i64::MIN, i64::MAX)
-                                    && (is_between(count, i64::MIN, i64::MAX)
-                                        && is_up_to(data, 500)))))))
-        }
-        _ => false,
-    }
-}
-
-/// Whether a row of DISTRICT has the cells of its table.
-pub fn is_district_row(row: &[Cell]) -> bool
-    ensures { result ≡ fits_all (tables.columns 2) row.now }
-{
-    match row {
-        [name, tax, ytd, next] => {
-            is_up_to(name, 10)
-                && (is_between(tax, 0, 10_000)
-                    && (is_between(ytd, i64::MIN, i64::MAX) && is_between(next, 1, 200_000_000)))
-        }
-        _ => false,
-    }
-}
-
-/// Whether a row of WAREHOUSE has the cells of its table.
-pub fn is_warehouse_row(row: &[Cell]) -> bool
-    ensures { result ≡ fits_all (tables.columns 1) row.now }
-{
-    match row {
-        [name, tax, ytd] => {
-            is_up_to(name, 10)
-                && (is_between(tax, 0, 10_000) && is_between(ytd, i64::MIN, i64::MAX))
-        }
-        _ => false,
-    }
-}
-
-/// The row of a warehouse with its year's sum raised, and none where it would not be well formed.
-pub fn warehouse_copy(alloc: Global, cells: &[Cell], by: i64) -> Result<Option<CellList>, NoMemory>
-    ensures { IfOk result (λ copy. MatchOption copy (fits_all (tables.columns 1) (raised tables.w_ytd by cells.now) ≡ false)
-        (λ new. (new ≡ raised tables.w_ytd by cells.now) × (fits_all (tables.columns 1) new ≡ true))) }
-{
-    let Some(copy) = raised_copy(alloc, cells, 2, by)? else {
+    let Some(copy) = raised_copy(alloc, cells, place, by)? else {
         return Ok(None);
     };
-    if is_warehouse_row(copy.as_slice()) {
-        Ok(Some(copy))
-    } else {
-        Ok(None)
-    }
-}
-
-/// The row of a district likewise.
-pub fn district_copy(alloc: Global, cells: &[Cell], by: i64) -> Result<Option<CellList>, NoMemory>
-    ensures { IfOk result (λ copy. MatchOption copy (fits_all (tables.columns 2) (raised tables.d_ytd by cells.now) ≡ false)
-        (λ new. (new ≡ raised tables.d_ytd by cells.now) × (fits_all (tables.columns 2) new ≡ true))) }
-{
-    let Some(copy) = raised_copy(alloc, cells, 2, by)? else {
-        return Ok(None);
-    };
-    if is_district_row(copy.as_slice()) {
+    if fits_all(columns_of(table), copy.as_slice()) {
         Ok(Some(copy))
     } else {
         Ok(None)

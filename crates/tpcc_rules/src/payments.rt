@@ -2,17 +2,21 @@
 ghost use Rattle.std.specs.Prelude.{◌≡◌, ◌++◌, IfOk, MatchOption, OnOk, true, false, codes, decimal, map, take, pos};
 ghost use Rattle.std.specs.Fmt.{signed_decimal};
 ghost use Rattle.tpcc_rules.specs.Columns.{fits_all};
-ghost use Rattle.tpcc_rules.specs.Payments.{history, note, noted, paid, payment};
+ghost use Rattle.tpcc_rules.specs.Payments.{history, leaving, note, noted, paid, payment};
 ghost use Rattle.tpcc_rules.specs.ReadRows.{as_read};
 ghost use Rattle.tpcc_rules.specs.Effects as effects;
 ghost use Rattle.tpcc_rules.specs.Tables as tables;
 
-use crate::cells::{
-    district_copy, is_customer_row, lowered_copy, number_at, raised_copy, text_at, warehouse_copy,
-};
+use crate::cells::{lowered_copy, number_at, raised_copy, raised_row, text_at};
+use crate::columns::fits_all;
 use crate::effects::{Effect, Reason, Verdict};
 use crate::programs::Payment;
 use crate::read_rows::{ReadRow, cells_of};
+use crate::tables::{
+    CUSTOMER, CUSTOMER_BALANCE, CUSTOMER_COUNT, CUSTOMER_CREDIT, CUSTOMER_DATA, CUSTOMER_YTD,
+    DISTRICT, DISTRICT_NAME, DISTRICT_YTD, WAREHOUSE, WAREHOUSE_NAME, WAREHOUSE_YTD, columns_of,
+    customer_key, district_key, history_key, warehouse_key,
+};
 use deneva_base::{ByteList, Cell, CellList, Key, Keyed, NoMemory, Row, RowList, TxnId};
 use itoa::{Buffer, Integer};
 use std::alloc::Global;
@@ -56,16 +60,16 @@ fn note_of(alloc: Global, p: &Payment) -> Result<ByteList, NoMemory>
 fn noted_cells(alloc: Global, p: &Payment, cells: CellList) -> Result<CellList, NoMemory>
     ensures { IfOk result (λ new. new ≡ noted p.now cells) }
 {
-    if text_at(cells.as_slice(), 2) != b"BC".as_slice() {
+    if text_at(cells.as_slice(), CUSTOMER_CREDIT) != b"BC".as_slice() {
         return Ok(cells);
     }
     let mut text = note_of(alloc, p)?;
-    text.extend(text_at(cells.as_slice(), 7))?;
+    text.extend(text_at(cells.as_slice(), CUSTOMER_DATA))?;
     let mut text = text.into_vec();
     text.truncate(500);
     let mut cells = cells.into_vec();
-    if cells.len() > 7 {
-        cells[7] = Cell::Text(ByteList::of(text));
+    if cells.len() > CUSTOMER_DATA {
+        cells[CUSTOMER_DATA] = Cell::Text(ByteList::of(text));
     }
     Ok(CellList::of(cells))
 }
@@ -79,17 +83,17 @@ pub fn customer_copy(
     ensures { IfOk result (λ copy. MatchOption copy (fits_all (tables.columns 3) (paid p.now cells.now) ≡ false)
         (λ new. (new ≡ paid p.now cells.now) × (fits_all (tables.columns 3) new ≡ true))) }
 {
-    let Some(cells) = lowered_copy(alloc, cells, 4, p.amount)? else {
+    let Some(cells) = lowered_copy(alloc, cells, CUSTOMER_BALANCE, p.amount)? else {
         return Ok(None);
     };
-    let Some(cells) = raised_copy(alloc, cells.as_slice(), 5, p.amount)? else {
+    let Some(cells) = raised_copy(alloc, cells.as_slice(), CUSTOMER_YTD, p.amount)? else {
         return Ok(None);
     };
-    let Some(cells) = raised_copy(alloc, cells.as_slice(), 6, 1)? else {
+    let Some(cells) = raised_copy(alloc, cells.as_slice(), CUSTOMER_COUNT, 1)? else {
         return Ok(None);
     };
     let cells = noted_cells(alloc, p, cells)?;
-    if is_customer_row(cells.as_slice()) {
+    if fits_all(columns_of(CUSTOMER), cells.as_slice()) {
         Ok(Some(cells))
     } else {
         Ok(None)
@@ -123,7 +127,7 @@ fn history_row(
 }
 
 /// An effect that is rolled back.
-fn rolled_back(alloc: Global, reason: Reason) -> Effect
+pub fn rolled_back(alloc: Global, reason: Reason) -> Effect
     ensures { result ≡ effects.rolled_back reason }
 {
     Effect {
@@ -134,45 +138,44 @@ fn rolled_back(alloc: Global, reason: Reason) -> Effect
     }
 }
 
-fn warehouse_key_of(w: u32) -> Key
-    ensures { result ≡ tables.warehouse_key w }
-{
-    Key {
-        table: 1,
-        a: w,
-        b: 0,
-        c: 0,
-    }
-}
-
-fn district_key_of(w: u32, d: u32) -> Key
-    ensures { result ≡ tables.district_key w d }
-{
-    Key {
-        table: 2,
-        a: w,
-        b: d,
-        c: 0,
-    }
-}
-
-fn customer_key_of(w: u32, d: u32, c: u32) -> Key
-    ensures { result ≡ tables.customer_key w d c }
-{
-    Key {
-        table: 3,
-        a: w,
-        b: d,
-        c,
-    }
-}
-
 /// A row with its key.
-fn keyed(alloc: Global, key: Key, cells: CellList) -> Result<Keyed, NoMemory>
+pub fn keyed(alloc: Global, key: Key, cells: CellList) -> Result<Keyed, NoMemory>
     ensures { IfOk result (λ r. r ≡ record { key = key; row = cells }) }
 {
     let row = Row::of(alloc, cells)?;
     Ok(Keyed { key, row })
+}
+
+/// The effect of a payment that leaves these rows and this history.
+fn paid_effect(
+    alloc: Global,
+    id: TxnId,
+    p: &Payment,
+    warehouse: CellList,
+    district: CellList,
+    customer: CellList,
+    history: Row,
+) -> Result<Effect, NoMemory>
+    ensures { IfOk result (λ e. e ≡ leaving id p.now warehouse district customer history) }
+{
+    let answer = number_at(customer.as_slice(), CUSTOMER_BALANCE);
+    let writes = vec![in alloc;
+        keyed(alloc, warehouse_key(p.w), warehouse)?,
+        keyed(alloc, district_key(p.w, p.d), district)?,
+        keyed(alloc, customer_key(p.cw, p.cd, p.c), customer)?,
+    ]?;
+    let appends = vec![in alloc;
+        Keyed {
+            key: history_key(p.w, id.0),
+            row: history
+        },
+    ]?;
+    Ok(Effect {
+        verdict: Verdict::Commit,
+        writes: RowList::of(writes),
+        appends: RowList::of(appends),
+        answer,
+    })
 }
 
 /// What a payment makes of the rows that it reads, whatever they are.
@@ -184,42 +187,30 @@ pub fn payment_effect(
 ) -> Result<Effect, NoMemory>
     ensures { IfOk result (λ e. e ≡ payment id p.now (map as_read rows.now)) }
 {
-    let at_warehouse = warehouse_key_of(p.w);
-    let at_district = district_key_of(p.w, p.d);
-    let at_customer = customer_key_of(p.cw, p.cd, p.c);
+    let at_warehouse = warehouse_key(p.w);
+    let at_district = district_key(p.w, p.d);
+    let at_customer = customer_key(p.cw, p.cd, p.c);
     let warehouse = cells_of(rows, at_warehouse);
     let district = cells_of(rows, at_district);
-    let Some(new_warehouse) = warehouse_copy(alloc, warehouse, p.amount)? else {
+    let Some(new_warehouse) = raised_row(alloc, WAREHOUSE, warehouse, WAREHOUSE_YTD, p.amount)?
+    else {
         return Ok(rolled_back(alloc, Reason::Range { key: at_warehouse }));
     };
-    let Some(new_district) = district_copy(alloc, district, p.amount)? else {
+    let Some(new_district) = raised_row(alloc, DISTRICT, district, DISTRICT_YTD, p.amount)? else {
         return Ok(rolled_back(alloc, Reason::Range { key: at_district }));
     };
     let Some(new_customer) = customer_copy(alloc, p, cells_of(rows, at_customer))? else {
         return Ok(rolled_back(alloc, Reason::Range { key: at_customer }));
     };
-    let answer = number_at(new_customer.as_slice(), 4);
-    let history = history_row(alloc, id, p, text_at(warehouse, 0), text_at(district, 0))?;
-    let writes = vec![in alloc;
-        keyed(alloc, at_warehouse, new_warehouse)?,
-        keyed(alloc, at_district, new_district)?,
-        keyed(alloc, at_customer, new_customer)?,
-    ]?;
-    let appends = vec![in alloc;
-        Keyed {
-            key: Key {
-                table: 5,
-                a: p.w,
-                b: id.0,
-                c: 0
-            },
-            row: history
-        },
-    ]?;
-    Ok(Effect {
-        verdict: Verdict::Commit,
-        writes: RowList::of(writes),
-        appends: RowList::of(appends),
-        answer,
-    })
+    let name = text_at(warehouse, WAREHOUSE_NAME);
+    let history = history_row(alloc, id, p, name, text_at(district, DISTRICT_NAME))?;
+    paid_effect(
+        alloc,
+        id,
+        p,
+        new_warehouse,
+        new_district,
+        new_customer,
+        history,
+    )
 }
