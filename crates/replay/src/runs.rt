@@ -46,7 +46,7 @@ fn run_in<'w, S: Server<'w>>(
 }
 
 /// Runs a workload under the protocol of a configuration: the mails are delivered in the order that the schedule picks,
-/// until none is in flight. The only error is want of memory.
+/// until none is in flight. The only error is out of memory.
 pub fn replay(
     alloc: Global,
     config: Config,

@@ -95,7 +95,7 @@ fn rows(alloc: Global, next: i64, w: u32, quantity: i64, data: &[u8]) -> Result<
     ]?))
 }
 
-fn order_line(alloc: Global, number: u32, w: i64, letter: &[u8]) -> Result<Keyed, NoMemory> {
+fn order_line(alloc: Global, key: Key, w: i64, letter: &[u8]) -> Result<Keyed, NoMemory> {
     let cells = vec![in alloc;
         Cell::Num(1),
         Cell::Num(w),
@@ -103,7 +103,7 @@ fn order_line(alloc: Global, number: u32, w: i64, letter: &[u8]) -> Result<Keyed
         Cell::Num(1_250),
         text(alloc, letter)?,
     ]?;
-    keyed(alloc, line_key(1, 1, 3_001, number), cells)
+    keyed(alloc, key, cells)
 }
 
 /// The rows of ORDER and NEW-ORDER.
@@ -133,8 +133,8 @@ fn two_lines_take_from_one_stock(rt: HostRuntime) -> Result<(), Fail> {
         stock(alloc, 1, [10, 10, 2, 0], b"xORIGINALx")?,
     ]?;
     let mut appends = RowList::of(heads(alloc, 2, 1)?);
-    appends.push(order_line(alloc, 1, 1, b"B")?)?;
-    appends.push(order_line(alloc, 2, 1, b"B")?)?;
+    appends.push(order_line(alloc, line_key(1, 1, 3_001, 1), 1, b"B")?)?;
+    appends.push(order_line(alloc, line_key(1, 1, 3_001, 2), 1, b"B")?)?;
     assert_eq!(rt; effect.verdict, Verdict::Commit);
     assert_eq!(rt; effect.writes, RowList::of(writes));
     assert_eq!(rt; effect.appends, appends);
@@ -155,7 +155,7 @@ fn a_stock_of_another_warehouse_is_refilled(rt: HostRuntime) -> Result<(), Fail>
         stock(alloc, 2, [100, 5, 1, 1], b"ORIGINA")?,
     ]?;
     let mut appends = RowList::of(heads(alloc, 1, 0)?);
-    appends.push(order_line(alloc, 1, 2, b"G")?)?;
+    appends.push(order_line(alloc, line_key(1, 1, 3_001, 1), 2, b"G")?)?;
     assert_eq!(rt; effect.verdict, Verdict::Commit);
     assert_eq!(rt; effect.writes, RowList::of(writes));
     assert_eq!(rt; effect.appends, appends);

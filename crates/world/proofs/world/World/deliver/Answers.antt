@@ -44,7 +44,7 @@ handle-requires g c =
     let fit = fits_at g.S.Handles.role g.S.Handles.stands g.S.Handles.protocol laws.fits was.nodes.items w inv.0 inv.1 c.args.k c.from.result m c.index_mut-node.result.now at to here in
     record { fits = (heard c.from.result w.progress.entries, fit.0, fit.1) }
 
--- at want of memory in the node nothing has changed
+-- where memory ends in the node nothing has changed
 pub invariant_of-self-in_err-handle : goal.invariant_of-self-in_err-handle
 invariant_of-self-in_err-handle g c =
     let was = c.self.inside in
