@@ -13,7 +13,7 @@ pub fn files_are_valid()
     ensures order { (bytes : List ℕ) (work : Workload) → workload_of bytes ≡ Ok work → IsRising work.load.rows }
 {}
 
-/// Some text of the grammar, of whatever length, gives each valid workload, up to the order of its load's rows.
+/// Some text of the grammar, of whatever length, gives each valid workload, up to the order of its load's rows and items.
 pub fn valid_workloads_have_files()
     ensures { (work : Workload) → IsValid work → AreNumbers work → (bytes : List ℕ) × (workload_of bytes ≡ Ok (in_order work)) }
 {}

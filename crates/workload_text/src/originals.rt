@@ -17,8 +17,8 @@ fn includes(needle: &[u8], bytes: &[u8]) -> bool
 }
 
 /// Whether the data of an item includes `ORIGINAL` (TPC-C 4.3.3.1).
-pub fn is_original(data: &[u8]) -> bool
-    ensures { result ≡ orders.includes (codes "ORIGINAL") data.now }
+pub fn is_original(text: &[u8]) -> bool
+    ensures { result ≡ orders.includes (codes "ORIGINAL") text.now }
 {
-    includes(b"ORIGINAL", data)
+    includes(b"ORIGINAL", text)
 }

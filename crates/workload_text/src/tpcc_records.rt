@@ -1,5 +1,5 @@
 //! What the records of a file of TPC-C say.
-ghost use Rattle.std.specs.Prelude.{◌≡◌, ◌<◌, ◌≤◌, ◌+◌, ◌*◌, ◌^◌, map, length};
+ghost use Rattle.std.specs.Prelude.{◌≡◌, ◌<◌, ◌≤◌, ◌+◌, ◌-◌, ◌*◌, ◌^◌, map, length};
 ghost use Rattle.tpcc_rules.specs.Names.{by_last_name};
 ghost use Rattle.workload_text.specs.Gives.{Gives};
 ghost use Rattle.workload_text.specs.Reader.{work_of};
