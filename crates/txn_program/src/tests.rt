@@ -145,18 +145,6 @@ fn an_effect_writes_what_changes(rt: HostRuntime) -> Result<(), Fail> {
 }
 
 #[test]
-fn a_transaction_lives_where_its_first_row_lies(rt: HostRuntime) -> Result<(), Fail> {
-    let alloc = rt.alloc();
-    let load = load_of(alloc, 1, &[4, 5], 1, b"a")?;
-    let work = work_of(alloc, load, steps_of(alloc, &[5, 4])?)?;
-    assert!(rt; valid(&work));
-    for program in work.programs.as_slice() {
-        assert_eq!(rt; home(&work.load, program, 2), 1);
-    }
-    Ok(())
-}
-
-#[test]
 fn participants_rise(rt: HostRuntime) -> Result<(), Fail> {
     let alloc = rt.alloc();
     let load = load_of(alloc, 1, &[3, 5, 7], 1, b"a")?;

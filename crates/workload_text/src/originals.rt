@@ -7,13 +7,13 @@ fn includes(needle: &[u8], bytes: &[u8]) -> bool
     ensures { result ≡ orders.includes needle.now bytes.now }
 {
     let mut rest = bytes;
-    while let Some((_, more)) = rest.split_first() {
-        if rest.starts_with(needle) {
-            return true;
+    while !rest.starts_with(needle) {
+        match rest.split_first() {
+            Some((_, more)) => rest = more,
+            None => return false,
         }
-        rest = more;
     }
-    needle.is_empty()
+    true
 }
 
 /// Whether the data of an item includes `ORIGINAL` (TPC-C 4.3.3.1).
