@@ -10,7 +10,9 @@ use deneva_base::{
 use server_core::{Mail, Msg, Outbox, Role};
 use std::alloc::Global;
 use std::test::Fail;
-use txn_program::{ItemList, Load, Program, ProgramList, StepList, WorkKind, Workload, YcsbAct, YcsbStep};
+use txn_program::{
+    ItemList, Load, Program, ProgramList, StepList, WorkKind, Workload, YcsbAct, YcsbStep,
+};
 
 /// The key of each transaction, whose home is the key itself.
 const KEYS: [u32; 10] = [1, 1, 0, 1, 1, 1, 1, 1, 1, 1];

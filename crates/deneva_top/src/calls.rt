@@ -14,7 +14,6 @@ ghost use Rattle.workload_text.specs.Sources.{InputIs, WorkIs, FaultIs, IsReadUn
 use crate::fault_text::write_fault;
 use crate::serial_model::run_serial;
 use crate::words::{Command, command_of};
-use workload_text::{ReadError, read_workload};
 use deneva_base::{ByteList, IdList, NoMemory, TxnId};
 use deneva_io::{Put, Sink, Source};
 use replay::{Ran, replay};
@@ -22,6 +21,7 @@ use report::write_report;
 use run_outcomes::{serial_outcome, serial_outcomes_are_serial};
 use std::alloc::Global;
 use txn_program::{ProgramList, Workload};
+use workload_text::{ReadError, read_workload};
 
 /// The most bytes that are written at once.
 const PIECE: usize = 4_096;

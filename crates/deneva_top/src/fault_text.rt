@@ -3,10 +3,10 @@ ghost use Rattle.std.specs.Prelude.{◌≡◌, ◌++◌, IfOk};
 ghost use Rattle.deneva_top.specs.Calls.{kind_fields, fault_line};
 ghost use Rattle.report.specs.ReportText.{field_texts};
 
-use workload_text::{FaultKind, InputFault};
 use deneva_base::{ByteList, NoMemory};
 use report::{with_field, with_number_field};
 use std::alloc::Global;
+use workload_text::{FaultKind, InputFault};
 
 /// The text with the fields that name what is wrong at its end.
 fn with_kind(text: ByteList, kind: FaultKind) -> Result<ByteList, NoMemory>

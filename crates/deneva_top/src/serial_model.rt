@@ -5,13 +5,13 @@ ghost use Rattle.deneva_base.specs.Rows.{rows_in, row_at, put_all, in_key_order}
 ghost use Rattle.txn_program.specs.Serial.{serial, turn, map_after, effect_on, reads_from, settled};
 ghost use Rattle.deneva_top.specs.Executor.{IsKnown};
 
-use workload_text::rows_in_order;
 use deneva_base::{Access, Copied, IdList, Key, Keyed, NoMemory, Row, RowList, TxnId};
 use std::alloc::Global;
 use std::collections::BTreeMap;
 use txn_program::{
     Effect, SerialList, SerialRun, SerialTxn, Verdict, Workload, accesses_of, effect_of,
 };
+use workload_text::rows_in_order;
 
 /// The row of a key, or a row of no cells where the key is absent.
 fn row_of(alloc: Global, rows: &BTreeMap<Key, Row>, key: Key) -> Result<Row, NoMemory>

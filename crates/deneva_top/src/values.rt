@@ -4,10 +4,10 @@ ghost use Rattle.std.specs.List.{starts_with};
 ghost use Rattle.server_core.specs.declared.schedules.Schedule.TheVariants.{Seed};
 ghost use Rattle.deneva_top.specs.Words as spelled;
 
-use workload_text::{long_number_within, number_within};
 use deneva_base::{CountList, NoMemory};
 use server_core::Schedule;
 use std::alloc::Global;
+use workload_text::{long_number_within, number_within};
 
 /// The most numbers that a schedule lists.
 const MOST_LISTED: usize = 1_000;

@@ -5,7 +5,10 @@ ghost use Rattle.node_trials.specs.Works.{trial_row, trial_step, trial_work};
 
 use deneva_base::{ByteList, Cell, CellList, Keyed, NoMemory, Row, RowList};
 use std::alloc::Global;
-use txn_program::{ItemList, Load, Program, ProgramList, StepList, WorkKind, Workload, YcsbAct, YcsbPut, YcsbStep, ycsb_key_of};
+use txn_program::{
+    ItemList, Load, Program, ProgramList, StepList, WorkKind, Workload, YcsbAct, YcsbPut, YcsbStep,
+    ycsb_key_of,
+};
 
 /// A row of one text.
 pub(crate) fn row(alloc: Global, number: u32) -> Result<Keyed, NoMemory>

@@ -8,7 +8,10 @@ use deneva_base::{
 use server_core::{AbortLine, Entry, Giveup, History, Msg, SentRows};
 use std::alloc::Global;
 use std::test::Fail;
-use txn_program::{ItemList, Load, Program, ProgramList, StepList, WorkKind, Workload, YcsbAct, YcsbPut, YcsbStep, valid, ycsb_key_of};
+use txn_program::{
+    ItemList, Load, Program, ProgramList, StepList, WorkKind, Workload, YcsbAct, YcsbPut, YcsbStep,
+    valid, ycsb_key_of,
+};
 
 fn keyed_of(alloc: Global, key: u32, letter: u8) -> Result<Keyed, NoMemory> {
     let mut cells = CellList::new(alloc);

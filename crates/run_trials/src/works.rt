@@ -3,7 +3,10 @@
 use deneva_base::{ByteList, Cell, CellList, Keyed, Row, RowList};
 use std::alloc::Global;
 use std::test::Fail;
-use txn_program::{ItemList, Load, Program, ProgramList, StepList, WorkKind, Workload, YcsbAct, YcsbPut, YcsbStep, ycsb_key_of};
+use txn_program::{
+    ItemList, Load, Program, ProgramList, StepList, WorkKind, Workload, YcsbAct, YcsbPut, YcsbStep,
+    ycsb_key_of,
+};
 
 /// A step of a transaction.
 #[derive(Clone, Copy)]

@@ -7,7 +7,10 @@ use deneva_base::{
 };
 use std::alloc::Global;
 use std::test::Fail;
-use txn_program::{ItemList, Load, Program, ProgramList, StepList, Verdict, WorkKind, Workload, YcsbAct, YcsbStep, valid, ycsb_key_of};
+use txn_program::{
+    ItemList, Load, Program, ProgramList, StepList, Verdict, WorkKind, Workload, YcsbAct, YcsbStep,
+    valid, ycsb_key_of,
+};
 
 const WHO: Attempt = Attempt {
     txn: TxnId(3),

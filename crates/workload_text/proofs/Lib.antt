@@ -6,6 +6,8 @@ pub mod Onward
 pub mod Plain
 pub mod Puts
 pub mod FirstQuote
+pub mod ItemEntries
+pub mod LineByLine
 pub mod RecordText
 pub mod StepByStep
 pub mod ValidFiles
