@@ -20,5 +20,5 @@ returns-in_ok-insert-in-Sells-clause-work c =
     let item = c.in-Sells.item in
     let self = c.args.self.now in
     let price : to_z w64 (of_z w64 item.price) ≡ item.price = search rules in
-    let items = ap items_in c.in_ok-insert-in-Sells.ensures.entries ∙ sym (put_item-entries self.items.entries item.number (record { price = item.price; original = item.original })) in
-    rw (c.in-Sells.is, price) (ap (λ (is : List Item). record { load = record { kind = kind_of self.head; fields = fields_of_head self.head; rows = rows_in self.rows.entries; items = is }; programs = self.programs }) items)
+    let items = ap items_in (rw price at c.in_ok-insert-in-Sells.ensures.entries) ∙ sym (put_item-entries self.items.entries item.number (record { price = item.price; original = item.original })) in
+    rw c.in-Sells.is (ap (λ (is : List Item). record { load = record { kind = kind_of self.head; fields = fields_of_head self.head; rows = rows_in self.rows.entries; items = is }; programs = self.programs }) items)
