@@ -1,6 +1,5 @@
 -- What a reader has read so far.
 use Rattle.std.specs.Prelude.{◌≡◌, ⊤, ℕ, Result, Ok, Err}
-use Rattle.deneva_base.specs.Rows.{rows_in}
 use Rattle.txn_program.specs.declared.programs.Workload.{Workload}
 use Rattle.workload_text.specs.declared.faults.Flaw.{Flaw}
 use Rattle.workload_text.specs.declared.faults.InputFault.{InputFault}
@@ -25,7 +24,7 @@ work_of reading = record {
   load = record {
     kind = kind_of reading.head;
     fields = fields_of_head reading.head;
-    rows = rows_in reading.rows.entries;
+    rows = reading.rows;
     items = items_in reading.items.entries;
   };
   programs = reading.programs;

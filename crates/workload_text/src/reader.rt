@@ -52,9 +52,10 @@ fn ycsb_said(
 }
 
 /// What a record of a file of TPC-C says that loads nothing.
-fn run_said(alloc: Global, reading: &Reading, fields: &[&[u8]]) -> Result<Said, RecordError>
+fn run_said(alloc: Global, reading: &mut Reading, fields: &[&[u8]]) -> Result<Said, RecordError>
     requires bound { length fields.now < 2 ^ 63 }
-    ensures { Gives result (grammar.run_of_tpcc (work_of reading.now) (map (λ f. f.now) fields.now)) }
+    ensures said { Gives result (grammar.run_of_tpcc (work_of reading.old) (map (λ f. f.now) fields.now)) }
+    ensures same { reading.new ≡ reading.old }
 {
     let word = field(fields, 1);
     if is_word(word, "payment") {
@@ -70,9 +71,10 @@ fn run_said(alloc: Global, reading: &Reading, fields: &[&[u8]]) -> Result<Said, 
 }
 
 /// What a record after the head of a file of TPC-C says.
-fn tpcc_said(alloc: Global, reading: &Reading, fields: &[&[u8]]) -> Result<Said, RecordError>
+fn tpcc_said(alloc: Global, reading: &mut Reading, fields: &[&[u8]]) -> Result<Said, RecordError>
     requires bound { length fields.now < 2 ^ 63 }
-    ensures { Gives result (grammar.said_by_word (work_of reading.now) (map (λ f. f.now) fields.now)) }
+    ensures said { Gives result (grammar.said_by_word (work_of reading.old) (map (λ f. f.now) fields.now)) }
+    ensures same { reading.new ≡ reading.old }
 {
     let word = field(fields, 1);
     match table_of(word) {
@@ -89,10 +91,11 @@ fn tpcc_said(alloc: Global, reading: &Reading, fields: &[&[u8]]) -> Result<Said,
 }
 
 /// What a record after the head says.
-fn meaning(alloc: Global, reading: &Reading, fields: &[&[u8]]) -> Result<Said, RecordError>
+fn meaning(alloc: Global, reading: &mut Reading, fields: &[&[u8]]) -> Result<Said, RecordError>
     requires word { 1 ≤ length fields.now }
     requires bound { length fields.now < 2 ^ 63 }
-    ensures { Gives result (grammar.said_by reading.now.head (work_of reading.now) (map (λ f. f.now) fields.now)) }
+    ensures said { Gives result (grammar.said_by reading.old.head (work_of reading.old) (map (λ f. f.now) fields.now)) }
+    ensures same { reading.new ≡ reading.old }
 {
     match reading.head {
         Head::Ycsb(head) => ycsb_said(alloc, reading, head, fields),

@@ -1,6 +1,5 @@
 //! What was read of a workload file so far.
 ghost use Rattle.std.specs.Prelude.{◌≡◌, ◌++◌, ◌≤◌, length, IfOk, Ok};
-ghost use Rattle.deneva_base.specs.Rows.{rows_in, has_key};
 ghost use Rattle.tpcc_rules.specs.Items.{has_item};
 ghost use Rattle.txn_program.specs.declared.programs.Workload.{Workload};
 ghost use Rattle.workload_text.specs.Grammar as grammar;
@@ -10,7 +9,7 @@ ghost use Rattle.workload_text.specs.declared.faults.FaultKind.TheVariants.{TooM
 use crate::faults::{FaultKind, Flaw};
 use crate::fields::flaw;
 use crate::heads::Head;
-use crate::ordered_rows::rows_in_order;
+use crate::loaded::Loaded;
 use crate::said::Said;
 use deneva_base::{Key, Keyed, NoMemory, Row};
 use std::alloc::Global;
@@ -34,7 +33,7 @@ pub struct Sale {
 #[derive(Drop)]
 pub struct Reading {
     pub head: Head,
-    pub rows: BTreeMap<Key, Row>,
+    pub rows: Loaded,
     pub items: BTreeMap<u32, Sale>,
     pub programs: ProgramList,
 }
@@ -51,12 +50,6 @@ pub fn too_many(limit: u32) -> FaultKind
     ensures { result ≡ TooMany limit }
 {
     FaultKind::TooMany { limit }
-}
-
-pub fn is_loaded(rows: &BTreeMap<Key, Row>, key: Key) -> bool
-    ensures { result ≡ has_key (rows_in rows.now.entries) key }
-{
-    rows.contains_key(&key)
 }
 
 pub fn is_sold(items: &BTreeMap<u32, Sale>, number: u32) -> bool
@@ -91,7 +84,7 @@ impl Reading {
     {
         Reading {
             head,
-            rows: BTreeMap::new(alloc),
+            rows: Loaded::new(alloc),
             items: BTreeMap::new(alloc),
             programs: ProgramList::new(alloc),
         }
@@ -101,7 +94,7 @@ impl Reading {
     pub fn row_of(&self, field_no: usize, key: Key, row: Row) -> Result<Said, Flaw>
         ensures { result ≡ loading.row_of (work_of self.now) field_no key row }
     {
-        if is_loaded(&self.rows, key) {
+        if self.rows.has(key) {
             return Err(flaw(field_no, FaultKind::Repeated));
         }
         if self.rows.len() >= ROW_LIMIT as usize {
@@ -157,7 +150,7 @@ impl Reading {
             items,
             programs,
         } = self;
-        let rows = rows_in_order(alloc, rows)?;
+        let rows = rows.into_rows(alloc)?;
         let items = items_in_order(alloc, items)?;
         let load = Load {
             kind: head.kind(),

@@ -1,6 +1,5 @@
 //! What the records of a file of TPC-C say.
 ghost use Rattle.std.specs.Prelude.{◌≡◌, ◌<◌, ◌≤◌, ◌+◌, ◌-◌, ◌*◌, ◌^◌, map, length};
-ghost use Rattle.tpcc_rules.specs.Names.{by_last_name};
 ghost use Rattle.workload_text.specs.Gives.{Gives};
 ghost use Rattle.workload_text.specs.Reader.{work_of};
 ghost use Rattle.workload_text.specs.Tpcc as tpcc;
@@ -11,7 +10,7 @@ use crate::fields::{field, flaw, flaw_error, integer_at};
 use crate::orders::ordered_from;
 use crate::originals::is_original;
 use crate::payments::{Naming, Payer, Places, naming_of, payer_from, places_from};
-use crate::reading::{Reading, is_loaded, is_sold, too_many};
+use crate::reading::{Reading, is_sold, too_many};
 use crate::said::Said;
 use crate::tables::{Table, item_at, key_from};
 use deneva_base::Key;
@@ -70,14 +69,14 @@ fn item_from(fields: &[&[u8]]) -> Result<Item, Flaw>
     }
     let number = item_at(fields, 2)?;
     let price = integer_at(3, field(fields, 3), 0, 1_000_000)?;
-    let data = field(fields, 4);
-    if data.len() > 50 {
+    let text = field(fields, 4);
+    if text.len() > 50 {
         return Err(flaw(4, FaultKind::OutOfRange));
     }
     Ok(Item {
         number,
         price,
-        original: is_original(data),
+        original: is_original(text),
     })
 }
 
@@ -96,7 +95,7 @@ pub fn item_said(reading: &Reading, fields: &[&[u8]]) -> Result<Said, Flaw>
 fn known_at(reading: &Reading, field_no: usize, key: Key) -> Result<(), Flaw>
     ensures { result ≡ tpcc.known_at (work_of reading.now) field_no key }
 {
-    if is_loaded(&reading.rows, key) {
+    if reading.rows.has(key) {
         Ok(())
     } else {
         Err(flaw(field_no, FaultKind::UnknownKey))
@@ -111,27 +110,15 @@ fn place_known(reading: &Reading, w: u32, d: u32) -> Result<(), Flaw>
     known_at(reading, 3, district_key(w, d))
 }
 
-/// The middle one of the loaded customers of a district with a last name (TPC-C 2.5.2.2).
-fn customer_named(
-    alloc: Global,
-    reading: &Reading,
-    w: u32,
-    d: u32,
-    last: &[u8],
-) -> Result<u32, RecordError>
-    ensures { Gives result (tpcc.found (by_last_name (work_of reading.now).load.rows w d last.now)) }
-{
-    Err(RecordError::NoMemory)
-}
-
-/// The number of the customer who pays.
+/// The number of the customer who pays: of several of one last name the middle one (TPC-C 2.5.2.2).
 fn payer_of(
     alloc: Global,
-    reading: &Reading,
+    reading: &mut Reading,
     places: Places,
     payer: &Payer,
 ) -> Result<u32, RecordError>
-    ensures { Gives result (tpcc.payer_of (work_of reading.now) places.cw places.cd payer.now) }
+    ensures number { Gives result (tpcc.payer_of (work_of reading.old) places.cw places.cd payer.now) }
+    ensures same { reading.new ≡ reading.old }
 {
     match payer {
         Payer::Numbered(number) => {
@@ -139,7 +126,11 @@ fn payer_of(
             Ok(*number)
         }
         Payer::Named(last) => {
-            customer_named(alloc, reading, places.cw, places.cd, last.as_slice())
+            let rows = &mut reading.rows;
+            match rows.customer_named(alloc, places.cw, places.cd, last.as_slice())? {
+                Some(number) => Ok(number),
+                None => Err(flaw_error(7, FaultKind::UnknownKey)),
+            }
         }
     }
 }
@@ -147,12 +138,13 @@ fn payer_of(
 /// What a payment says whose fields were read.
 fn paid(
     alloc: Global,
-    reading: &Reading,
+    reading: &mut Reading,
     places: Places,
     payer: &Payer,
     amount: i64,
 ) -> Result<Said, RecordError>
-    ensures { Gives result (tpcc.payment_of (work_of reading.now) places payer.now amount) }
+    ensures said { Gives result (tpcc.payment_of (work_of reading.old) places payer.now amount) }
+    ensures same { reading.new ≡ reading.old }
 {
     place_known(reading, places.w, places.d)?;
     let number = payer_of(alloc, reading, places, payer)?;
@@ -170,11 +162,12 @@ fn paid(
 /// What a payment's record says, where its customer is named so.
 fn payment_named(
     alloc: Global,
-    reading: &Reading,
+    reading: &mut Reading,
     naming: Naming,
     fields: &[&[u8]],
 ) -> Result<Said, RecordError>
-    ensures { Gives result (tpcc.payment_by (work_of reading.now) (map (λ f. f.now) fields.now) naming) }
+    ensures said { Gives result (tpcc.payment_by (work_of reading.old) (map (λ f. f.now) fields.now) naming) }
+    ensures same { reading.new ≡ reading.old }
 {
     if fields.len() != 8 {
         return Err(flaw_error(0, FaultKind::Arity));
@@ -186,8 +179,13 @@ fn payment_named(
 }
 
 /// What a record with the word `payment` says.
-pub fn payment_said(alloc: Global, reading: &Reading, fields: &[&[u8]]) -> Result<Said, RecordError>
-    ensures { Gives result (tpcc.payment_from (work_of reading.now) (map (λ f. f.now) fields.now)) }
+pub fn payment_said(
+    alloc: Global,
+    reading: &mut Reading,
+    fields: &[&[u8]],
+) -> Result<Said, RecordError>
+    ensures said { Gives result (tpcc.payment_from (work_of reading.old) (map (λ f. f.now) fields.now)) }
+    ensures same { reading.new ≡ reading.old }
 {
     if fields.len() < 6 {
         return Err(flaw_error(0, FaultKind::Arity));

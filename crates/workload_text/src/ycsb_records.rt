@@ -1,6 +1,5 @@
 //! What the records of a file of YCSB say.
 ghost use Rattle.std.specs.Prelude.{◌≡◌, ◌<◌, ◌≤◌, ◌^◌, map, length, IfOk, []};
-ghost use Rattle.deneva_base.specs.Rows.{rows_in};
 ghost use Rattle.workload_text.specs.Gives.{Gives};
 ghost use Rattle.workload_text.specs.Reader.{work_of};
 ghost use Rattle.workload_text.specs.Ycsb as ycsb;
@@ -8,23 +7,24 @@ ghost use Rattle.workload_text.specs.Ycsb as ycsb;
 use crate::faults::{FaultKind, RecordError};
 use crate::fields::{field, flaw_error, number_at};
 use crate::heads::YcsbHead;
-use crate::reading::{Reading, is_loaded, too_many};
+use crate::loaded::Loaded;
+use crate::reading::{Reading, too_many};
 use crate::said::Said;
 use crate::steps::{Placed, steps_of};
 use crate::texts::texts_from;
-use deneva_base::{Items, Key, NoMemory, Row};
+use deneva_base::{Items, NoMemory};
 use std::alloc::Global;
-use std::collections::{BTreeMap, BTreeSet};
+use std::collections::BTreeSet;
 use txn_program::{Program, StepList, ycsb_key_of};
 
 const STEP_LIMIT: u32 = 16;
 
 /// The field of the first step whose key is not loaded.
-fn first_unknown(rows: &BTreeMap<Key, Row>, steps: &[Placed]) -> Option<usize>
-    ensures { result ≡ ycsb.first_unknown (rows_in rows.now.entries) steps.now }
+fn first_unknown(rows: &Loaded, steps: &[Placed]) -> Option<usize>
+    ensures { result ≡ ycsb.first_unknown rows.now steps.now }
 {
     for placed in steps {
-        if !is_loaded(rows, ycsb_key_of(placed.step.key)) {
+        if !rows.has(ycsb_key_of(placed.step.key)) {
             return Some(placed.field_no);
         }
     }

@@ -1,19 +1,9 @@
 use Rattle.std.proofs.Common.{◌≡◌, ◌∙◌, List, ap, sym, rules, to_z, of_z, w64}
-use Rattle.deneva_base.specs.Rows.{rows_in}
-use Rattle.deneva_base.specs.declared.rows.Keyed.{Keyed}
-use Rattle.deneva_base.proofs.Entries.{put-entries}
 use Rattle.tpcc_rules.specs.declared.programs.Item.{Item}
 use Rattle.workload_text.specs.Grammar.{kind_of, fields_of_head}
 use Rattle.workload_text.specs.SortedItems.{items_in}
 use Rattle.workload_text.proofs.ItemEntries.{put_item-entries}
 use Rattle.workload_text.proofs.reading.Reading.add.Goals as goal
-
-pub returns-in_ok-insert-in-Loads-clause-work : goal.returns-in_ok-insert-in-Loads-clause-work
-returns-in_ok-insert-in-Loads-clause-work c =
-    let keyed = c.in-Loads.keyed in
-    let self = c.args.self.now in
-    let rows = ap rows_in c.in_ok-insert-in-Loads.ensures.entries ∙ sym (put-entries self.rows.entries keyed.key keyed.row) in
-    rw c.in-Loads.is (ap (λ (rs : List Keyed). record { load = record { kind = kind_of self.head; fields = fields_of_head self.head; rows = rs; items = items_in self.items.entries }; programs = self.programs }) rows)
 
 pub returns-in_ok-insert-in-Sells-clause-work : goal.returns-in_ok-insert-in-Sells-clause-work
 returns-in_ok-insert-in-Sells-clause-work c =
@@ -21,4 +11,4 @@ returns-in_ok-insert-in-Sells-clause-work c =
     let self = c.args.self.now in
     let price : to_z w64 (of_z w64 item.price) ≡ item.price = search rules in
     let items = ap items_in (rw price at c.in_ok-insert-in-Sells.ensures.entries) ∙ sym (put_item-entries self.items.entries item.number (record { price = item.price; original = item.original })) in
-    rw c.in-Sells.is (ap (λ (is : List Item). record { load = record { kind = kind_of self.head; fields = fields_of_head self.head; rows = rows_in self.rows.entries; items = is }; programs = self.programs }) items)
+    rw c.in-Sells.is (ap (λ (is : List Item). record { load = record { kind = kind_of self.head; fields = fields_of_head self.head; rows = self.rows; items = is }; programs = self.programs }) items)
