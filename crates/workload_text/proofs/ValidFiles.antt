@@ -291,12 +291,12 @@ with_row_kept head work r kept says = record {
 item_loaded : (head : Head) (work : Workload) (i : Item) → Kept head work → Says head work (Sells i) → is_load_of (kind_of head) (with_item work i).load ≡ true
 item_loaded (Ycsb head) work i kept says = absurd (false≢true says.1)
 item_loaded Tpcc work i kept says =
-    let own = and_parts _ _ kept.loaded in
-    let items = and_parts _ _ own.0 in
-    let few = and_parts _ _ items.0 in
     let long : length (put_item work.load.items i) ≡ length work.load.items + 1 = length-put_item work.load.items i says.2 in
     let room : length work.load.items < 100000 = says.3 in
     let within : length (put_item work.load.items i) ≤ 100000 = omega (arith, long, room) in
+    let own = and_parts _ _ kept.loaded in
+    let items = and_parts _ _ own.0 in
+    let few = and_parts _ _ items.0 in
     and_from _ _ (and_from _ _ (and_from _ _ few.0 (le-leb _ _ within)) (list_all-put_item is_valid_item work.load.items i says.1 items.1))
     (own_from_rising (put_item work.load.items i) (numbers_rise-put_item work.load.items i kept.sold))
 

@@ -133,12 +133,12 @@ in_sort : {A : Type 0} (before : A → A → Bool) (x : A) (xs : List A) → IsI
 in_sort before x [] h = h
 in_sort before x (y ∷ ys) h = ⊎_elim (λ e. inl e) (λ t. inr (in_sort before x ys t)) (in_insert before x y (sort before ys) h)
 
+same_some : {A : Type 0} (x y : A) → Some x ≡ Some y → x ≡ y
+same_some x y e = cc
+
 in_got : {A : Type 0} (xs : List A) (n : ℕ) (x : A) → slice_get xs n ≡ Some x → IsIn x xs
 in_got [] n x h = absurd (cc)
-in_got (y ∷ ys) zero x h = inl (some_same x y (sym h))
-  where
-    some_same : (x y : A) → Some x ≡ Some y → x ≡ y
-    some_same x y e = cc
+in_got (y ∷ ys) zero x h = inl (same_some x y (sym h))
 in_got (y ∷ ys) (suc n) x h = inr (in_got ys n x h)
 
 number_got : (o : Option Keyed) (c : ℕ) → option_map (λ r. r.key.c) o ≡ Some c → (r : Keyed) × (o ≡ Some r) × (r.key.c ≡ c)
