@@ -5,10 +5,13 @@ pub mod FileRecords
 pub mod Onward
 pub mod Plain
 pub mod Puts
+pub mod ReadFields
+pub mod SortedItems
 pub mod FirstQuote
 pub mod ItemEntries
 pub mod LineByLine
 pub mod RecordText
 pub mod StepByStep
 pub mod ValidFiles
+pub mod ValidTpcc
 pub mod WrittenRecords

@@ -3,7 +3,7 @@ use Rattle.std.proofs.Common.{◌≡◌, ℕ, zero, suc, ◌+◌, ◌-◌, ◌�
 use Rattle.std.specs.Prelude.{if◌then◌else◌, nat_le, nat_lt, codes}
 use Rattle.std.specs.List.{list_all, list_any}
 use Rattle.std.specs.Str.{bytes_eq}
-use Rattle.std.proofs.lemmas.Bool.{and_parts, and_from, or_parts, true≢false, leb-true, leb-false, le-leb, lt-ltb, eqb-true, eq-eqb, not-false, ltb-false, eqb-false, or_cases, or_left, or_right, or_from}
+use Rattle.std.proofs.lemmas.Bool.{and_parts, and_from, or_parts, true≢false, false≢true, leb-true, leb-false, le-leb, lt-ltb, eqb-true, eq-eqb, not-false, ltb-false, eqb-false, or_cases, or_left, or_right, or_from}
 use Rattle.std.proofs.lemmas.List.{length-take-le, length-drop, length-append, length-map, nil_from_length}
 use Rattle.std.proofs.lemmas.List.Folds.{list_all-append}
 use Rattle.deneva_base.specs.Keys.{key_eq}
@@ -11,14 +11,19 @@ use Rattle.deneva_base.specs.Rows.{has_key, put}
 use Rattle.deneva_base.specs.declared.keys.Key.{Key}
 use Rattle.deneva_base.specs.declared.rows.Cell.{Cell}
 use Rattle.deneva_base.specs.declared.rows.Keyed.{Keyed}
+use Rattle.tpcc_rules.specs.Items.{has_item, have_own_numbers, numbers_rise}
+use Rattle.tpcc_rules.specs.declared.programs.Item.{Item}
+use Rattle.tpcc_rules.proofs.ItemNumbers.{own_from_rising}
 use Rattle.txn_program.specs.Transactions.{ycsb_key}
-use Rattle.txn_program.specs.Valid.{is_plain, is_text, is_text_cell, is_row, is_valid_row, are_distinct, is_valid_act, is_valid_step, is_valid_program, IsValid}
+use Rattle.txn_program.specs.Valid.{is_plain, is_text, is_text_cell, is_row, is_ycsb_key, is_valid_row, is_tpcc_row, is_valid_item, are_distinct, are_valid_rows, is_load_of, is_valid_act, is_valid_step, is_valid_program, IsValid}
 use Rattle.txn_program.specs.declared.programs.YcsbAct.{YcsbAct}
 use Rattle.txn_program.specs.declared.programs.YcsbAct.TheVariants.{Read, Update, Put}
 use Rattle.txn_program.specs.declared.programs.YcsbPut.{YcsbPut}
 use Rattle.txn_program.specs.declared.programs.Program.{Program}
+use Rattle.txn_program.specs.declared.programs.Program.TheVariants as programs
 use Rattle.txn_program.specs.declared.programs.Load.{Load}
 use Rattle.txn_program.specs.declared.programs.Workload.{Workload}
+use Rattle.txn_program.specs.declared.programs.WorkKind.{WorkKind}
 use Rattle.txn_program.proofs.Distinct.{distinct_from_rising}
 use Rattle.workload_text.specs.declared.faults.FaultKind.{FaultKind}
 use Rattle.workload_text.specs.declared.faults.FaultKind.TheVariants.{UnknownKey, Repeated}
@@ -27,41 +32,29 @@ use Rattle.workload_text.specs.declared.faults.InputFault.{InputFault}
 use Rattle.workload_text.specs.declared.heads.Format.{Format}
 use Rattle.workload_text.specs.declared.heads.Format.TheVariants.{One, Two}
 use Rattle.workload_text.specs.declared.heads.Head.{Head}
+use Rattle.workload_text.specs.declared.heads.Head.TheVariants.{Ycsb, Tpcc}
+use Rattle.workload_text.specs.declared.heads.YcsbHead.{YcsbHead}
 use Rattle.workload_text.specs.declared.said.Said.{Said}
-use Rattle.workload_text.specs.declared.said.Said.TheVariants.{Loads, Runs, Ends}
+use Rattle.workload_text.specs.declared.said.Said.TheVariants.{Loads, Sells, Runs, Ends}
 use Rattle.workload_text.specs.declared.steps.Placed.{Placed}
 use Rattle.workload_text.specs.Files.{IsRising}
 use Rattle.workload_text.specs.Gives.{◌>>=◌}
-use Rattle.workload_text.specs.Numbers.{number_in, is_number, value_of}
 use Rattle.records.specs.Records.{Record, records_of}
-use Rattle.workload_text.specs.Fields.{field_at, placed_at, number_at, text_at, texts_from}
-use Rattle.workload_text.specs.Grammar.{format_of, head_of_format, head_from, end_from, said_by, with_row, with_program, at_end, read_after, read_on, empty, read_from_head, workload_from, quote_from, unless_quoted, workload_of}
+use Rattle.workload_text.specs.Fields.{field_at, number_at, text_at, texts_from}
+use Rattle.workload_text.specs.Grammar.{format_of, ycsb_head, kind_of_format, head_of_format, head_from, kind_of, fields_of_head, said_of_ycsb, said_by, with_row, with_item, with_program, at_end, read_after, read_on, empty, read_from_head, workload_from, quote_from, unless_quoted, workload_of}
+use Rattle.workload_text.specs.SortedItems.{put_item}
 use Rattle.workload_text.specs.Ycsb.{row_from, width, width_of_put, put_from, act_from, step_from, word_at, args_of, steps_from, first_unknown, first_repeated, none_at, txn_of}
 use Rattle.workload_text.proofs.Bound.{bound, passed, held, either_gave, same_ok}
 use Rattle.workload_text.proofs.Plain.{is_plain_record, records_are_plain}
 use Rattle.workload_text.proofs.Puts.{list_all-put, keys_rise-put, length-put}
-
--- numbers
-
-at_place : {A : Type 0} (n : ℕ) (r : Result A FaultKind) (x : A) → placed_at n r ≡ Ok x → r ≡ Ok x
-at_place n (Ok y) x h = ap Ok (same_ok y x h)
-at_place n (Err k) x h = absurd (cc)
-
--- a number that was read lies between the limits
-number_between : (n low high : ℕ) (field : List ℕ) (x : ℕ) → number_at n low high field ≡ Ok x → (low ≤ x) × (x ≤ high)
-number_between n low high field x h =
-    let a = passed (not (is_number field)) _ _ x (at_place n (number_in low high field) x h) in
-    let b = held (nat_le low (value_of field) && nat_le (value_of field) high) _ _ x a.1 in
-    let e : value_of field ≡ x = same_ok {E = FaultKind} _ _ b.1 in
-    let c = and_parts _ _ b.0 in
-    (subst (λ (y : ℕ). low ≤ y) e (leb-true _ _ c.0), subst (λ (y : ℕ). y ≤ high) e (leb-true _ _ c.1))
+use Rattle.workload_text.proofs.ReadFields.{number_between, short_text_read, plain_drop, plain_take, plain_at, Allowed, row_allowed, run_allowed, end_allowed}
+use Rattle.workload_text.proofs.SortedItems.{list_all-put_item, numbers_rise-put_item, length-put_item}
+use Rattle.workload_text.proofs.ValidTpcc.{tpcc_allowed}
 
 -- texts
 
 text_read : (n : ℕ) (bytes text : List ℕ) → list_all is_plain bytes ≡ true → text_at n bytes ≡ Ok text → is_text text ≡ true
-text_read n bytes text plain h =
-    let a = held (nat_le (length bytes) 100) _ _ text h in
-    subst (λ (t : List ℕ). is_text t ≡ true) (same_ok {E = Flaw} _ _ a.1) (and_from _ _ a.0 plain)
+text_read n bytes text plain h = let read = short_text_read n 100 bytes text plain h in and_from _ _ read.0 read.1
 
 -- so many cells, each a text
 abbrev pub AreTexts : ℕ → List Cell → Type 0
@@ -80,26 +73,9 @@ row_read n fields texts cells plain long h =
     let a = texts_read n texts cells plain h in
     and_from _ _ (eq-eqb _ _ (a.0 ∙ long)) a.1
 
--- the plain fields among plain fields
-
-plain_drop : (n : ℕ) (r : Record) → is_plain_record r ≡ true → is_plain_record (drop n r) ≡ true
-plain_drop zero r h = h
-plain_drop (suc n) [] h = refl
-plain_drop (suc n) (f ∷ r) h = plain_drop n r (and_parts _ _ h).1
-
-plain_take : (n : ℕ) (r : Record) → is_plain_record r ≡ true → is_plain_record (take n r) ≡ true
-plain_take zero r h = refl
-plain_take (suc n) [] h = refl
-plain_take (suc n) (f ∷ r) h = and_from _ _ (and_parts _ _ h).0 (plain_take n r (and_parts _ _ h).1)
-
-plain_at : (n : ℕ) (r : Record) → is_plain_record r ≡ true → list_all is_plain (get_or r n []) ≡ true
-plain_at n [] h = refl
-plain_at zero (f ∷ r) h = (and_parts _ _ h).0
-plain_at (suc n) (f ∷ r) h = plain_at n r (and_parts _ _ h).1
-
 -- steps
 
-put_read : (head : Head) (n : ℕ) (more : Record) (put : YcsbPut) → 1 ≤ head.fields → is_plain_record more ≡ true → put_from head n more ≡ Ok put → is_valid_act head.fields (Update put) ≡ true
+put_read : (head : YcsbHead) (n : ℕ) (more : Record) (put : YcsbPut) → 1 ≤ head.fields → is_plain_record more ≡ true → put_from head n more ≡ Ok put → is_valid_act head.fields (Update put) ≡ true
 put_read head n more put some plain h =
     let a = bound (number_at (n + 2) 0 (head.fields - 1) (field_at 1 more)) _ put h in
     let b = bound (text_at (n + 3) (field_at 2 more)) _ put a.2 in
@@ -113,7 +89,7 @@ row_width One fields w true h = absurd (cc)
 row_width Two fields w true h = cc
 row_width format fields w false h = absurd (cc)
 
-act_by : (head : Head) (n w : ℕ) (args : Record) (act : YcsbAct) (r u p : Bool) → 1 ≤ head.fields → is_plain_record args ≡ true → length args ≡ w
+act_by : (head : YcsbHead) (n w : ℕ) (args : Record) (act : YcsbAct) (r u p : Bool) → 1 ≤ head.fields → is_plain_record args ≡ true → length args ≡ w
     → (if r then Some 1 else if u then Some 3 else if p then width_of_put head.format head.fields else None) ≡ Some w
     → (if r then Ok Read else if u then (put_from head n (drop 1 args) >>= λ put. Ok (Update put)) else (texts_from (n + 2) (drop 1 args) >>= λ cells. Ok (Put cells))) ≡ Ok act
     → is_valid_act head.fields act ≡ true
@@ -127,7 +103,7 @@ act_by head n w args act false false p some plain long wide h =
     subst (λ (x : YcsbAct). is_valid_act head.fields x ≡ true) (same_ok {E = Flaw} _ _ a.2)
     (row_read (n + 2) head.fields (drop 1 args) a.0 (plain_drop 1 args plain) (omega (arith, length-drop 1 args)) a.1)
 
-step_read : (head : Head) (n w : ℕ) (word : List ℕ) (args : Record) (step : Placed) → 1 ≤ head.fields → is_plain_record args ≡ true → length args ≡ w
+step_read : (head : YcsbHead) (n w : ℕ) (word : List ℕ) (args : Record) (step : Placed) → 1 ≤ head.fields → is_plain_record args ≡ true → length args ≡ w
     → width head word ≡ Some w → step_from head n word args ≡ Ok step → is_valid_act head.fields step.step.act ≡ true
 step_read head n w word args step some plain long wide h =
     let a = bound (number_at (n + 1) 0 4294967295 (field_at 1 args)) _ step h in
@@ -147,7 +123,7 @@ args_read w more args plain h =
 abbrev pub acts : ℕ → List Placed → Bool
 acts fields steps = list_all (λ p. is_valid_act fields p.step.act) steps
 
-steps_read : (head : Head) (most n : ℕ) (fields : Record) (steps : List Placed) → 1 ≤ head.fields → is_plain_record fields ≡ true → steps_from head most n fields ≡ Ok steps → acts head.fields steps ≡ true
+steps_read : (head : YcsbHead) (most n : ℕ) (fields : Record) (steps : List Placed) → 1 ≤ head.fields → is_plain_record fields ≡ true → steps_from head most n fields ≡ Ok steps → acts head.fields steps ≡ true
 steps_read head zero n [] steps some plain h = subst (λ (l : List Placed). acts head.fields l ≡ true) (same_ok {E = Flaw} _ _ h) refl
 steps_read head zero n (word ∷ more) steps some plain h = subst (λ (l : List Placed). acts head.fields l ≡ true) (same_ok {E = Flaw} _ _ h) refl
 steps_read head (suc m) n [] steps some plain h = subst (λ (l : List Placed). acts head.fields l ≡ true) (same_ok {E = Flaw} _ _ h) refl
@@ -208,141 +184,220 @@ keys_apart keys (p ∷ steps) h =
       λ k e. or_from _ _ (apart p.step.key k keys a.0 e) (more.1 k (or_right _ _ e)),
     )
 
--- what a record may say where the records before it gave this workload
-abbrev pub Allowed : Workload → Said → Type 0
-Allowed work (Loads r) = (length work.programs ≡ 0) × (is_valid_row work.load.fields r ≡ true) × (has_key work.load.rows r.key ≡ false) × (length work.load.rows < 1000000)
-Allowed work (Runs p) = (is_valid_program work.load p ≡ true) × (length work.programs < 10000)
-Allowed work Ends = Unit {0}
+-- what a record may say
 
-txn_allowed : (work : Workload) (steps : List Placed) (s : Said) → acts work.load.fields steps ≡ true → txn_of work steps ≡ Ok s → Allowed work s
+abbrev AllowedYcsb : Workload → Said → Type 0
+AllowedYcsb work s = Allowed (is_valid_row work.load.fields) (λ (i : Item). false) work s
+
+txn_allowed : (work : Workload) (steps : List Placed) (s : Said) → acts work.load.fields steps ≡ true → txn_of work steps ≡ Ok s → AllowedYcsb work s
 txn_allowed work steps s fit h =
     let a = passed (length steps == 0) _ _ s h in
     let b = bound (none_at UnknownKey (first_unknown work.load.rows steps)) _ s a.1 in
     let c = bound (none_at Repeated (first_repeated [] steps)) _ s b.2 in
     let d = passed (nat_lt 16 (length steps)) _ _ s c.2 in
-    let e = passed (nat_le 10000 (length work.programs)) _ _ s d.1 in
     let long : length (map (λ (p : Placed). p.step) steps) ≡ length steps = length-map steps (λ (p : Placed). p.step) in
     let some : length steps ≡ 0 → ⊥ = eqb-false _ _ a.0 in
     let few : length steps ≤ 16 = ltb-false _ _ d.0 in
-    let less : length work.programs < 10000 = leb-false _ _ e.0 in
     let at_least : 1 ≤ length (map (λ (p : Placed). p.step) steps) = omega (arith, long, some) in
     let at_most : length (map (λ (p : Placed). p.step) steps) ≤ 16 = omega (arith, long, few) in
-    subst (Allowed work) (same_ok {E = Flaw} _ _ e.1) (
-      and_from _ _ (and_from _ _ (and_from _ _ (le-leb _ _ at_least) (le-leb _ _ at_most))
-          (steps_valid work.load steps (no_flaw UnknownKey (first_unknown work.load.rows steps) b.0 b.1) fit))
-          (keys_apart [] steps (no_flaw Repeated (first_repeated [] steps) c.0 c.1)).0,
-      less,
-    )
+    run_allowed (is_valid_row work.load.fields) (λ (i : Item). false) work (programs.Ycsb (map (λ (p : Placed). p.step) steps)) s
+    (and_from _ _ (and_from _ _ (and_from _ _ (le-leb _ _ at_least) (le-leb _ _ at_most))
+        (steps_valid work.load steps (no_flaw UnknownKey (first_unknown work.load.rows steps) b.0 b.1) fit))
+        (keys_apart [] steps (no_flaw Repeated (first_repeated [] steps) c.0 c.1)).0) d.1
 
-row_allowed : (head : Head) (work : Workload) (r : Record) (s : Said) → work.load.fields ≡ head.fields → is_plain_record r ≡ true → row_from head work r ≡ Ok s → Allowed work s
-row_allowed head work r s same plain h =
+texts_allowed : (head : YcsbHead) (work : Workload) (r : Record) (s : Said) → work.load.fields ≡ head.fields → is_plain_record r ≡ true → row_from head work r ≡ Ok s → AllowedYcsb work s
+texts_allowed head work r s same plain h =
     let a = passed (not (length work.programs == 0)) _ _ s h in
     let b = passed (not (length r == 2 + head.fields)) _ _ s a.1 in
     let c = bound (number_at 2 0 4294967295 (field_at 2 r)) _ s b.1 in
     let d = bound (texts_from 3 (drop 2 r)) _ s c.2 in
-    let e = passed (has_key work.load.rows (ycsb_key c.0)) _ _ s d.2 in
-    let f = passed (nat_le 1000000 (length work.load.rows)) _ _ s e.1 in
     let long : length r ≡ 2 + head.fields = eqb-true _ _ (not-false _ b.0) in
     let rest : length (drop 2 r) ≡ work.load.fields = omega (arith, length-drop 2 r, long, same) in
-    subst (Allowed work) (same_ok {E = Flaw} _ _ f.1)
-    (eqb-true _ _ (not-false _ a.0), row_read 3 work.load.fields (drop 2 r) d.0 (plain_drop 2 r plain) rest d.1, e.0, leb-false _ _ f.0)
+    row_allowed (is_valid_row work.load.fields) (λ (i : Item). false) work 2 (ycsb_key c.0) d.0 s (eqb-true _ _ (not-false _ a.0))
+    (row_read 3 work.load.fields (drop 2 r) d.0 (plain_drop 2 r plain) rest d.1) d.2
 
-end_allowed : (work : Workload) (r : Record) (s : Said) → end_from r ≡ Ok s → Allowed work s
-end_allowed work r s h = subst (Allowed work) (same_ok {E = Flaw} _ _ (held (length r == 1) _ _ s h).1) tt
-
-said_allowed : (head : Head) (work : Workload) (r : Record) (s : Said) → 1 ≤ head.fields → work.load.fields ≡ head.fields → is_plain_record r ≡ true → said_by head work r ≡ Ok s → Allowed work s
-said_allowed head work r s some same plain h =
-    either_gave (Allowed work s) (bytes_eq (field_at 1 r) (codes "row")) _ _ s h (row_allowed head work r s same plain) (λ g.
-    either_gave (Allowed work s) (bytes_eq (field_at 1 r) (codes "txn")) _ _ s g (λ e.
+ycsb_allowed : (head : YcsbHead) (work : Workload) (r : Record) (s : Said) → 1 ≤ head.fields → work.load.fields ≡ head.fields → is_plain_record r ≡ true → said_of_ycsb head work r ≡ Ok s → AllowedYcsb work s
+ycsb_allowed head work r s some same plain h =
+    either_gave (AllowedYcsb work s) (bytes_eq (field_at 1 r) (codes "row")) _ _ s h (texts_allowed head work r s same plain) (λ g.
+    either_gave (AllowedYcsb work s) (bytes_eq (field_at 1 r) (codes "txn")) _ _ s g (λ e.
     let a = bound (steps_from head (length r) 2 (drop 1 r)) _ s e in
     txn_allowed work a.0 s (subst (λ (n : ℕ). acts n a.0 ≡ true) (sym same) (steps_read head (length r) 2 (drop 1 r) a.0 some (plain_drop 1 r plain) a.1)) a.2) (λ e.
-    end_allowed work r s (held (bytes_eq (field_at 1 r) (codes "end")) _ _ s e).1))
+    end_allowed (is_valid_row work.load.fields) (λ (i : Item). false) work r s (held (bytes_eq (field_at 1 r) (codes "end")) _ _ s e).1))
+
+-- the tests of the rows and items of a file, by its head
+
+abbrev fits_row : Head → Workload → Keyed → Bool
+fits_row (Ycsb head) work = is_valid_row work.load.fields
+fits_row Tpcc work = is_tpcc_row
+
+abbrev fits_item : Head → Item → Bool
+fits_item (Ycsb head) i = false
+fits_item Tpcc i = is_valid_item i
+
+abbrev Says : Head → Workload → Said → Type 0
+Says head work s = Allowed (fits_row head work) (fits_item head) work s
 
 -- the workload so far
 pub record Kept (head : Head) (work : Workload) : Type 0 where
-  pub fields : work.load.fields ≡ head.fields
-  pub valid : IsValid work
+  pub kind : work.load.kind ≡ kind_of head
+  pub fields : work.load.fields ≡ fields_of_head head
+  pub loaded : is_load_of (kind_of head) work.load ≡ true
+  pub few : length work.programs ≤ 10000
+  pub runs : list_all (is_valid_program work.load) work.programs ≡ true
   pub rising : IsRising work.load.rows
+  pub sold : numbers_rise work.load.items ≡ true
 
-with_row_kept : (head : Head) (work : Workload) (r : Keyed) → Kept head work → Allowed work (Loads r) → Kept head (with_row work r)
-with_row_kept head work r kept allowed =
-    let long : length (put work.load.rows r) ≡ length work.load.rows + 1 = length-put work.load.rows r allowed.2 in
-    let room : length work.load.rows < 1000000 = allowed.3 in
-    let fits : length (put work.load.rows r) ≤ 1000000 = omega (arith, long, room) in
-    let v = and_parts _ _ kept.valid in
-    let l = and_parts _ _ v.0 in
-    let d = and_parts _ _ l.0 in
-    let rows = and_parts _ _ d.0 in
-    let few = and_parts _ _ rows.0 in
-    let rise = keys_rise-put work.load.rows r kept.rising in
-    record {
-      fields = kept.fields;
-      valid = and_from _ _ (and_from _ _ (and_from _ _ (and_from _ _ (and_from _ _ few.0 (le-leb _ _ fits))
-          (list_all-put (is_valid_row work.load.fields) work.load.rows r allowed.1 rows.1)) (distinct_from_rising (put work.load.rows r) rise)) l.1)
-          (subst (λ (ps : List Program). list_all (is_valid_program (with_row work r).load) ps ≡ true) (sym (nil_from_length work.programs allowed.0)) refl);
-      rising = rise;
-    }
+kept_valid : (head : Head) (work : Workload) → Kept head work → IsValid work
+kept_valid head work kept =
+    and_from _ _ (and_from _ _ (subst (λ (kind : WorkKind). is_load_of kind work.load ≡ true) (sym kept.kind) kept.loaded) (le-leb _ _ kept.few)) kept.runs
 
-with_program_kept : (head : Head) (work : Workload) (p : Program) → Kept head work → Allowed work (Runs p) → Kept head (with_program work p)
-with_program_kept head work p kept allowed =
-    let room : length work.programs < 10000 = allowed.1 in
-    let fits : length (work.programs ++ p ∷ []) ≤ 10000 = omega (arith, length-append work.programs (p ∷ []), room) in
-    let v = and_parts _ _ kept.valid in
-    let l = and_parts _ _ v.0 in
+-- a row is added
+rows_put : (fits : Keyed → Bool) (rows : List Keyed) (r : Keyed) → are_valid_rows fits rows ≡ true → IsRising rows → fits r ≡ true → has_key rows r.key ≡ false → length rows < 1000000
+    → are_valid_rows fits (put rows r) ≡ true
+rows_put fits rows r valid rise fit new room =
+    let long : length (put rows r) ≡ length rows + 1 = length-put rows r new in
+    let within : length (put rows r) ≤ 1000000 = omega (arith, long, room) in
+    let parts = and_parts _ _ (and_parts _ _ valid).0 in
+    and_from _ _ (and_from _ _ (le-leb _ _ within) (list_all-put fits rows r fit parts.1)) (distinct_from_rising (put rows r) (keys_rise-put rows r rise))
+
+row_loaded : (head : Head) (work : Workload) (r : Keyed) → Kept head work → Says head work (Loads r) → is_load_of (kind_of head) (with_row work r).load ≡ true
+row_loaded (Ycsb head) work r kept says =
+    let none = and_parts _ _ kept.loaded in
+    let rows = and_parts _ _ none.0 in
+    and_from _ _ (and_from _ _ rows.0 (rows_put (is_valid_row work.load.fields) work.load.rows r rows.1 kept.rising says.1 says.2 says.3)) none.1
+row_loaded Tpcc work r kept says =
+    let own = and_parts _ _ kept.loaded in
+    let items = and_parts _ _ own.0 in
+    let few = and_parts _ _ items.0 in
+    let rows = and_parts _ _ few.0 in
+    and_from _ _ (and_from _ _ (and_from _ _ (and_from _ _ rows.0 (rows_put is_tpcc_row work.load.rows r rows.1 kept.rising says.1 says.2 says.3)) few.1) items.1) own.1
+
+-- no transactions, so each is valid whatever is loaded
+no_runs : (programs : List Program) (load : Load) → length programs ≡ 0 → list_all (is_valid_program load) programs ≡ true
+no_runs programs load none = subst (λ (ps : List Program). list_all (is_valid_program load) ps ≡ true) (sym (nil_from_length programs none)) refl
+
+with_row_kept : (head : Head) (work : Workload) (r : Keyed) → Kept head work → Says head work (Loads r) → Kept head (with_row work r)
+with_row_kept head work r kept says = record {
+  kind = kept.kind;
+  fields = kept.fields;
+  loaded = row_loaded head work r kept says;
+  few = kept.few;
+  runs = no_runs work.programs (with_row work r).load says.0;
+  rising = keys_rise-put work.load.rows r kept.rising;
+  sold = kept.sold;
+}
+
+-- an item is added
+item_loaded : (head : Head) (work : Workload) (i : Item) → Kept head work → Says head work (Sells i) → is_load_of (kind_of head) (with_item work i).load ≡ true
+item_loaded (Ycsb head) work i kept says = absurd (false≢true says.1)
+item_loaded Tpcc work i kept says =
+    let long : length (put_item work.load.items i) ≡ length work.load.items + 1 = length-put_item work.load.items i says.2 in
+    let room : length work.load.items < 100000 = says.3 in
+    let within : length (put_item work.load.items i) ≤ 100000 = omega (arith, long, room) in
+    let own = and_parts _ _ kept.loaded in
+    let items = and_parts _ _ own.0 in
+    let few = and_parts _ _ items.0 in
+    and_from _ _ (and_from _ _ (and_from _ _ few.0 (le-leb _ _ within)) (list_all-put_item is_valid_item work.load.items i says.1 items.1))
+    (own_from_rising (put_item work.load.items i) (numbers_rise-put_item work.load.items i kept.sold))
+
+with_item_kept : (head : Head) (work : Workload) (i : Item) → Kept head work → Says head work (Sells i) → Kept head (with_item work i)
+with_item_kept head work i kept says = record {
+  kind = kept.kind;
+  fields = kept.fields;
+  loaded = item_loaded head work i kept says;
+  few = kept.few;
+  runs = no_runs work.programs (with_item work i).load says.0;
+  rising = kept.rising;
+  sold = numbers_rise-put_item work.load.items i kept.sold;
+}
+
+-- a transaction is added
+with_program_kept : (head : Head) (work : Workload) (p : Program) → Kept head work → Says head work (Runs p) → Kept head (with_program work p)
+with_program_kept head work p kept says =
+    let room : length work.programs < 10000 = says.1 in
     record {
+      kind = kept.kind;
       fields = kept.fields;
-      valid = and_from _ _ (and_from _ _ l.0 (le-leb _ _ fits))
-          (list_all-append (is_valid_program work.load) work.programs (p ∷ []) ∙ and_from _ _ v.1 (and_from _ _ allowed.0 refl));
+      loaded = kept.loaded;
+      few = omega (arith, length-append work.programs (p ∷ []), room);
+      runs = list_all-append (is_valid_program work.load) work.programs (p ∷ []) ∙ and_from _ _ kept.runs (and_from _ _ says.0 refl);
       rising = kept.rising;
+      sold = kept.sold;
     }
+
+-- a load of YCSB has at least one field
+some_fields : (head : YcsbHead) (work : Workload) → Kept (Ycsb head) work → 1 ≤ head.fields
+some_fields head work kept =
+    let bounds = and_parts _ _ (and_parts _ _ (and_parts _ _ kept.loaded).0).0 in
+    subst (λ (n : ℕ). 1 ≤ n) kept.fields (leb-true _ _ bounds.0)
+
+said_allowed : (head : Head) (work : Workload) (r : Record) (s : Said) → Kept head work → is_plain_record r ≡ true → said_by head work r ≡ Ok s → Says head work s
+said_allowed (Ycsb head) work r s kept plain h = ycsb_allowed head work r s (some_fields head work kept) kept.fields plain h
+said_allowed Tpcc work r s kept plain h = tpcc_allowed work s r plain h
 
 ended : (work out : Workload) (n : ℕ) (rs : List Record) → at_end work n rs ≡ Ok out → work ≡ out
 ended work out n [] h = same_ok {E = InputFault} _ _ h
 ended work out n (r ∷ rs) h = absurd (cc)
 
 after_kept : (head : Head) (n : ℕ) (work out : Workload) (rs : List Record) (rest : Workload → Result Workload InputFault) (s : Result Said Flaw) → Kept head work
-    → ((x : Said) → s ≡ Ok x → Allowed work x) → ((w : Workload) → Kept head w → rest w ≡ Ok out → Kept head out) → read_after n work rs rest s ≡ Ok out → Kept head out
-after_kept head n work out rs rest (Err f) kept allowed go h = absurd (cc)
-after_kept head n work out rs rest (Ok (Loads r)) kept allowed go h = go (with_row work r) (with_row_kept head work r kept (allowed (Loads r) refl)) h
-after_kept head n work out rs rest (Ok (Runs p)) kept allowed go h = go (with_program work p) (with_program_kept head work p kept (allowed (Runs p) refl)) h
-after_kept head n work out rs rest (Ok Ends) kept allowed go h = subst (Kept head) (ended work out (n + 1) rs h) kept
-
-some_fields : (head : Head) (work : Workload) → Kept head work → 1 ≤ head.fields
-some_fields head work kept =
-    let v = and_parts _ _ kept.valid in
-    let l = and_parts _ _ v.0 in
-    let d = and_parts _ _ l.0 in
-    let rows = and_parts _ _ d.0 in
-    let few = and_parts _ _ rows.0 in
-    let bounds = and_parts _ _ few.0 in
-    subst (λ (n : ℕ). 1 ≤ n) kept.fields (leb-true _ _ bounds.0)
+    → ((x : Said) → s ≡ Ok x → Says head work x) → ((w : Workload) → Kept head w → rest w ≡ Ok out → Kept head out) → read_after n work rs rest s ≡ Ok out → Kept head out
+after_kept head n work out rs rest (Err f) kept says go h = absurd (cc)
+after_kept head n work out rs rest (Ok (Loads r)) kept says go h = go (with_row work r) (with_row_kept head work r kept (says (Loads r) refl)) h
+after_kept head n work out rs rest (Ok (Sells i)) kept says go h = go (with_item work i) (with_item_kept head work i kept (says (Sells i) refl)) h
+after_kept head n work out rs rest (Ok (Runs p)) kept says go h = go (with_program work p) (with_program_kept head work p kept (says (Runs p) refl)) h
+after_kept head n work out rs rest (Ok Ends) kept says go h = subst (Kept head) (ended work out (n + 1) rs h) kept
 
 read_kept : (head : Head) (n : ℕ) (rs : List Record) (work out : Workload) → list_all is_plain_record rs ≡ true → Kept head work → read_on head n rs work ≡ Ok out → Kept head out
 read_kept head n [] work out plain kept h = absurd (cc)
 read_kept head n (r ∷ rs) work out plain kept h =
     after_kept head n work out rs (read_on head (n + 1) rs) (said_by head work r) kept
-    (λ x e. said_allowed head work r x (some_fields head work kept) kept.fields (and_parts _ _ plain).0 e)
+    (λ x e. said_allowed head work r x kept (and_parts _ _ plain).0 e)
     (λ w k e. read_kept head (n + 1) rs w out (and_parts _ _ plain).1 k e) h
 
--- the head says 1 to 10 fields
+-- a head of YCSB says 1 to 10 fields
 
-head_by : (r : Record) (o : Option Format) (head : Head) → head_of_format r o ≡ Ok head → (1 ≤ head.fields) × (head.fields ≤ 10)
+abbrev HasFields : Head → Type 0
+HasFields (Ycsb head) = (1 ≤ head.fields) × (head.fields ≤ 10)
+HasFields Tpcc = Unit {0}
+
+ycsb_by : (r : Record) (format : Format) (head : Head) → ycsb_head r format ≡ Ok head → HasFields head
+ycsb_by r format head h =
+    let a = passed (not (bytes_eq (field_at 3 r) (codes "ycsb"))) _ _ head h in
+    let b = passed (not (length r == 4)) _ _ head a.1 in
+    let c = bound (number_at 4 1 10 (field_at 4 r)) _ head b.1 in
+    subst HasFields (same_ok {E = Flaw} _ _ c.2) (number_between 4 1 10 (field_at 4 r) c.0 c.1)
+
+kind_by : (r : Record) (format : Format) (head : Head) → kind_of_format r format ≡ Ok head → HasFields head
+kind_by r One head h =
+    either_gave (HasFields head) (bytes_eq (field_at 3 r) (codes "tpcc")) _ _ head h
+    (λ e. subst HasFields (same_ok {E = Flaw} _ _ (held (length r == 3) _ _ head e).1) tt) (ycsb_by r One head)
+kind_by r Two head h = ycsb_by r Two head h
+
+head_by : (r : Record) (o : Option Format) (head : Head) → head_of_format r o ≡ Ok head → HasFields head
 head_by r None head h = absurd (cc)
-head_by r (Some format) head h =
-    let a = passed (nat_lt (length r) 3) _ _ head h in
-    let b = passed (not (bytes_eq (field_at 3 r) (codes "ycsb"))) _ _ head a.1 in
-    let c = passed (not (length r == 4)) _ _ head b.1 in
-    let d = bound (number_at 4 1 10 (field_at 4 r)) _ head c.1 in
-    subst (λ (x : Head). (1 ≤ x.fields) × (x.fields ≤ 10)) (same_ok {E = Flaw} _ _ d.2) (number_between 4 1 10 (field_at 4 r) d.0 d.1)
+head_by r (Some format) head h = kind_by r format head (passed (nat_lt (length r) 3) _ _ head h).1
 
-empty_kept : (head : Head) → (1 ≤ head.fields) × (head.fields ≤ 10) → Kept head (empty head)
-empty_kept head h = record {
+empty_kept : (head : Head) → HasFields head → Kept head (empty head)
+empty_kept (Ycsb head) h = record {
+  kind = refl;
   fields = refl;
-  valid = and_from _ _ (and_from _ _ (and_from _ _ (and_from _ _ (and_from _ _ (and_from _ _ (le-leb _ _ h.0) (le-leb _ _ h.1)) refl) refl) refl) refl) refl;
+  loaded = and_from _ _ (and_from _ _ (and_from _ _ (le-leb _ _ h.0) (le-leb _ _ h.1)) refl) refl;
+  few = omega arith;
+  runs = refl;
   rising = refl;
+  sold = refl;
+}
+empty_kept Tpcc h = record {
+  kind = refl;
+  fields = refl;
+  loaded = refl;
+  few = omega arith;
+  runs = refl;
+  rising = refl;
+  sold = refl;
 }
 
-from_head : (h : Result Head Flaw) (rs : List Record) (out : Workload) → ((head : Head) → h ≡ Ok head → (1 ≤ head.fields) × (head.fields ≤ 10)) → list_all is_plain_record rs ≡ true
+from_head : (h : Result Head Flaw) (rs : List Record) (out : Workload) → ((head : Head) → h ≡ Ok head → HasFields head) → list_all is_plain_record rs ≡ true
     → read_from_head h rs ≡ Ok out → (head : Head) × Kept head out
 from_head (Err f) rs out known plain h = absurd (cc)
 from_head (Ok head) rs out known plain h = (head, read_kept head 2 rs (empty head) out plain (empty_kept head (known head refl)) h)
@@ -363,7 +418,7 @@ from_bytes bytes work h =
 
 -- the workload of a file is valid
 pub reads_valid : (bytes : List ℕ) (work : Workload) → workload_of bytes ≡ Ok work → IsValid work
-reads_valid bytes work h = (from_bytes bytes work h).1.valid
+reads_valid bytes work h = let read = from_bytes bytes work h in kept_valid read.0 work read.1
 
 -- its rows rise
 pub reads_rising : (bytes : List ℕ) (work : Workload) → workload_of bytes ≡ Ok work → IsRising work.load.rows
