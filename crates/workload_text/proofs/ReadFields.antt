@@ -1,5 +1,5 @@
 -- What was read at a field keeps to its limits, and what a record may say.
-use Rattle.std.proofs.Common.{◌≡◌, ℕ, zero, suc, ◌+◌, ◌≤◌, ◌<◌, ℤ, Bool, true, false, not, ◌&&◌, ◌==◌, List, [], ◌∷◌, length, take, drop, get_or, refl, ap, subst, arith, Result, Ok, Err}
+use Rattle.std.proofs.Common.{◌≡◌, ℕ, zero, suc, ◌≤◌, ◌<◌, ℤ, Bool, true, false, not, ◌&&◌, ◌==◌, List, [], ◌∷◌, length, take, drop, get_or, refl, ap, subst, Result, Ok, Err}
 use Rattle.std.specs.Prelude.{nat_le, int_le}
 use Rattle.std.specs.List.{list_all}
 use Rattle.std.proofs.lemmas.Bool.{and_parts, and_from, leb-true, leb-false, le-leb}
@@ -17,7 +17,7 @@ use Rattle.workload_text.specs.declared.faults.FaultKind.{FaultKind}
 use Rattle.workload_text.specs.declared.faults.Flaw.{Flaw}
 use Rattle.workload_text.specs.declared.said.Said.{Said}
 use Rattle.workload_text.specs.declared.said.Said.TheVariants.{Loads, Sells, Runs, Ends}
-use Rattle.workload_text.specs.Fields.{field_at, placed_at, number_at, integer_at, short_text_at}
+use Rattle.workload_text.specs.Fields.{placed_at, number_at, integer_at, short_text_at}
 use Rattle.workload_text.specs.Grammar.{end_from}
 use Rattle.workload_text.specs.Loading.{row_of, run_of}
 use Rattle.workload_text.specs.Numbers.{number_in, is_number, value_of, integer_in, is_integer, integer_of}

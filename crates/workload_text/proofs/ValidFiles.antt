@@ -1,9 +1,9 @@
 -- What the grammar reads is valid.
-use Rattle.std.proofs.Common.{◌≡◌, ℕ, zero, suc, ◌+◌, ◌-◌, ◌≤◌, ◌<◌, Bool, true, false, not, ◌&&◌, ◌==◌, List, [], ◌∷◌, ◌++◌, map, length, take, drop, get_or, refl, sym, ap, ◌∙◌, subst, arith, Option, Some, None, Result, Ok, Err, inl, inr}
-use Rattle.std.specs.Prelude.{if◌then◌else◌, nat_le, nat_lt, codes}
+use Rattle.std.proofs.Common.{◌≡◌, ℕ, zero, suc, ◌+◌, ◌-◌, ◌≤◌, ◌<◌, Bool, true, false, not, ◌&&◌, ◌==◌, List, [], ◌∷◌, map, length, drop, refl, sym, ap, ◌∙◌, subst, arith, Option, Some, None, Result, Ok, Err, inl, inr}
+use Rattle.std.specs.Prelude.{if◌then◌else◌, nat_lt, codes}
 use Rattle.std.specs.List.{list_all, list_any}
 use Rattle.std.specs.Str.{bytes_eq}
-use Rattle.std.proofs.lemmas.Bool.{and_parts, and_from, or_parts, true≢false, false≢true, leb-true, leb-false, le-leb, lt-ltb, eqb-true, eq-eqb, not-false, ltb-false, eqb-false, or_cases, or_left, or_right, or_from}
+use Rattle.std.proofs.lemmas.Bool.{and_parts, and_from, or_parts, true≢false, false≢true, leb-true, le-leb, lt-ltb, eqb-true, eq-eqb, not-false, ltb-false, eqb-false, or_cases, or_left, or_right, or_from}
 use Rattle.std.proofs.lemmas.List.{length-take-le, length-drop, length-append, length-map, nil_from_length}
 use Rattle.std.proofs.lemmas.List.Folds.{list_all-append}
 use Rattle.deneva_base.specs.Keys.{key_eq}
@@ -11,11 +11,11 @@ use Rattle.deneva_base.specs.Rows.{has_key, put}
 use Rattle.deneva_base.specs.declared.keys.Key.{Key}
 use Rattle.deneva_base.specs.declared.rows.Cell.{Cell}
 use Rattle.deneva_base.specs.declared.rows.Keyed.{Keyed}
-use Rattle.tpcc_rules.specs.Items.{has_item, have_own_numbers, numbers_rise}
+use Rattle.tpcc_rules.specs.Items.{numbers_rise}
 use Rattle.tpcc_rules.specs.declared.programs.Item.{Item}
 use Rattle.tpcc_rules.proofs.ItemNumbers.{own_from_rising}
 use Rattle.txn_program.specs.Transactions.{ycsb_key}
-use Rattle.txn_program.specs.Valid.{is_plain, is_text, is_text_cell, is_row, is_ycsb_key, is_valid_row, is_tpcc_row, is_valid_item, are_distinct, are_valid_rows, is_load_of, is_valid_act, is_valid_step, is_valid_program, IsValid}
+use Rattle.txn_program.specs.Valid.{is_plain, is_text, is_text_cell, is_row, is_valid_row, is_tpcc_row, is_valid_item, are_distinct, are_valid_rows, is_load_of, is_valid_act, is_valid_step, is_valid_program, IsValid}
 use Rattle.txn_program.specs.declared.programs.YcsbAct.{YcsbAct}
 use Rattle.txn_program.specs.declared.programs.YcsbAct.TheVariants.{Read, Update, Put}
 use Rattle.txn_program.specs.declared.programs.YcsbPut.{YcsbPut}

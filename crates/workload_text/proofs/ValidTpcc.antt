@@ -1,15 +1,14 @@
 -- What the grammar reads of TPC-C is valid.
-use Rattle.std.proofs.Common.{◌≡◌, ℕ, zero, suc, ◌+◌, ◌-◌, ◌/◌, ◌%◌, ◌≤◌, ◌<◌, ℤ, pos, negsuc, ◌^◌, Bool, true, false, not, cond, ◌&&◌, ◌||◌, ◌==◌, List, [], ◌∷◌, length, get_or, refl, sym, ap, ◌∙◌, subst, arith, Option, Some, None, Result, Ok, Err, inl, inr, ⊎_elim}
+use Rattle.std.proofs.Common.{◌≡◌, ℕ, zero, suc, ◌+◌, ◌-◌, ◌/◌, ◌%◌, ◌≤◌, ℤ, pos, negsuc, ◌^◌, Bool, true, false, not, ◌&&◌, ◌||◌, ◌==◌, List, [], ◌∷◌, length, refl, sym, ap, subst, arith, Option, Some, None, Result, Ok, inl, inr, ⊎_elim}
 use Rattle.std.specs.Prelude.{if◌then◌else◌, nat_le, nat_lt, int_le, codes, slice_get, option_map}
-use Rattle.std.specs.List.{list_all, list_any, filter}
+use Rattle.std.specs.List.{list_all, filter}
 use Rattle.std.specs.Str.{bytes_eq}
-use Rattle.std.proofs.lemmas.Bool.{and_parts, and_from, or_parts, true≢false, leb-true, leb-false, le-leb, eqb-true, eq-eqb, not-false, ltb-false, or_right}
+use Rattle.std.proofs.lemmas.Bool.{and_parts, and_from, or_parts, leb-false, le-leb, eqb-true, eq-eqb, ltb-false}
 use Rattle.deneva_base.specs.Keys.{key_eq}
 use Rattle.deneva_base.specs.Lists.{IsIn, insert, sort}
 use Rattle.deneva_base.specs.Rows.{has_key}
 use Rattle.deneva_base.specs.declared.keys.Key.{Key}
 use Rattle.deneva_base.specs.declared.rows.Cell.{Cell}
-use Rattle.deneva_base.specs.declared.rows.Cell.TheVariants.{Num, Text}
 use Rattle.deneva_base.specs.declared.rows.Keyed.{Keyed}
 use Rattle.deneva_base.proofs.Membership.{any_at, filter_in}
 use Rattle.records.specs.Records.{Record}
@@ -17,13 +16,13 @@ use Rattle.tpcc_rules.specs.Columns.{fits, fits_all, is_credit}
 use Rattle.tpcc_rules.specs.Items.{has_item}
 use Rattle.tpcc_rules.specs.Names.{is_namesake, comes_before, namesakes, by_last_name}
 use Rattle.tpcc_rules.specs.NewOrders.{is_loaded, stock_of}
-use Rattle.tpcc_rules.specs.Tables.{is_loaded_row, warehouse_key, district_key, customer_key, stock_key}
+use Rattle.tpcc_rules.specs.Tables.{is_loaded_row, warehouse_key, district_key, customer_key}
 use Rattle.tpcc_rules.specs.declared.columns.Column.{Column}
 use Rattle.tpcc_rules.specs.declared.columns.Column.TheVariants.{Between, UpTo, Credit, AnyNumber, AnyText}
 use Rattle.tpcc_rules.specs.declared.programs.Item.{Item}
 use Rattle.tpcc_rules.specs.declared.programs.Line.{Line}
 use Rattle.tpcc_rules.specs.declared.programs.NewOrder.{NewOrder}
-use Rattle.txn_program.specs.Valid.{is_plain, is_between, is_warehouse, is_district, is_customer, is_item, is_tpcc_key, is_plain_cell, is_tpcc_row, is_valid_item, has_district, has_customer, is_line_of_numbers, is_valid_line, is_valid_order, is_valid_program}
+use Rattle.txn_program.specs.Valid.{is_plain, is_tpcc_key, is_plain_cell, is_tpcc_row, is_valid_item, has_district, has_customer, is_line_of_numbers, is_valid_line}
 use Rattle.txn_program.specs.declared.programs.Program.TheVariants as programs
 use Rattle.txn_program.specs.declared.programs.Workload.{Workload}
 use Rattle.workload_text.specs.declared.faults.Flaw.{Flaw}
@@ -35,9 +34,8 @@ use Rattle.workload_text.specs.declared.said.Said.{Said}
 use Rattle.workload_text.specs.declared.tables.Table.{Table}
 use Rattle.workload_text.specs.declared.tables.Table.TheVariants.{Warehouse, District, Customer, Stock}
 use Rattle.workload_text.specs.Fields.{field_at, integer_at, number_at, short_text_at}
-use Rattle.workload_text.specs.Gives.{◌>>=◌}
-use Rattle.workload_text.specs.Grammar.{run_of_tpcc, said_of_tpcc, said_by_word}
-use Rattle.workload_text.specs.Tpcc.{warehouse_at, district_at, customer_at, item_at, table_of, width_of, columns_of, key_from, cell_at, cells_from, row_from, item_of, item_from, sold_by, before_runs, known_at, place_known, naming_of, places_from, payer_from, found, payer_of, payment_of, payment_by, payment_named, payment_from, line_at, lines_from, ordered_from, stock_known, stocks_known, order_of, order_from}
+use Rattle.workload_text.specs.Grammar.{said_of_tpcc, said_by_word}
+use Rattle.workload_text.specs.Tpcc.{warehouse_at, district_at, customer_at, item_at, table_of, width_of, columns_of, key_from, cell_at, cells_from, row_from, item_from, sold_by, before_runs, known_at, place_known, naming_of, places_from, payer_from, found, payer_of, payment_of, payment_named, payment_from, line_at, lines_from, ordered_from, stock_known, stocks_known, order_from}
 use Rattle.workload_text.proofs.Bound.{bound, passed, held, either_gave, same_ok}
 use Rattle.workload_text.proofs.Plain.{is_plain_record}
 use Rattle.workload_text.proofs.ReadFields.{number_read, integer_read, short_text_read, plain_at, Allowed, row_allowed, run_allowed, end_allowed}
