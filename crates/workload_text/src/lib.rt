@@ -7,6 +7,7 @@ mod fields;
 mod heads;
 mod laws;
 mod lines;
+mod loaded;
 mod numbers;
 mod ordered_rows;
 mod orders;
