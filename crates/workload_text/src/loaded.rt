@@ -118,7 +118,7 @@ impl Loaded {
 
     /// Puts a row at its key.
     pub fn insert(&mut self, key: Key, row: Row) -> Result<(), NoMemory>
-        ensures { OnOk result (self.new ≡ put self.old (record { key; row })) }
+        ensures { OnOk result (self.new ≡ put self.old (record { key = key; row = row })) }
     {
         self.middles = None;
         self.rows.insert(key, row)?;
