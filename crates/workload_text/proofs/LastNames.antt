@@ -129,7 +129,7 @@ abbrev middle_of : List Keyed → Option ℕ
 middle_of found = let named = sort comes_before found in option_map (λ r. r.key.c) (slice_get named ((length named + 1) / 2 - 1))
 
 pub names_all : (m : BTreeMap Name ℕ) (rows : List Keyed) → HasNames m rows rows → HasMiddles m rows
-unfolding HasNames, HasMiddles
+unfolding HasNames HasMiddles
 names_all m rows inv n = inv n ∙ whole (list_any (is_named n) rows) refl
   where
     whole : (b : Bool) → list_any (is_named n) rows ≡ b → cond b (by_last_name rows n.w n.d n.last.items) None ≡ by_last_name rows n.w n.d n.last.items
