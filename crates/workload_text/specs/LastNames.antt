@@ -10,7 +10,9 @@ use Rattle.workload_text.specs.declared.loaded.Name.{Name}
 
 -- by warehouse, district and last name, as bytes
 abbrev pub name_cmp : Name → Name → Ordering
-name_cmp n m = ordering_then (nat_cmp n.w m.w) (ordering_then (nat_cmp n.d m.d) (slice_cmp nat_cmp n.last.items m.last.items))
+name_cmp n m =
+    ordering_then (nat_cmp n.w m.w)
+    (ordering_then (nat_cmp n.d m.d) (slice_cmp nat_cmp n.last.items m.last.items))
 
 -- the map has the number of the middle customer of each last name among the rows
 unfoldable pub HasMiddles : BTreeMap Name ℕ → List Keyed → Type 0

@@ -113,7 +113,7 @@ impl Loaded {
     pub fn is_empty(&self) -> bool
         ensures { result ≡ (length self.now == 0) }
     {
-        self.rows.len() == 0
+        self.rows.is_empty()
     }
 
     /// Puts a row at its key.

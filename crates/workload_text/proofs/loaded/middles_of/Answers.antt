@@ -1,6 +1,5 @@
-use Rattle.std.proofs.Common.{◌≡◌, ◌∙◌, ◌+◌, ◌<◌, length, get_or, take, Some, None, ap, sym, subst, refl, rules}
+use Rattle.std.proofs.Common.{◌≡◌, ◌∙◌, ◌+◌, ◌<◌, length, get_or, take, ap, sym, subst, rules}
 use Rattle.std.proofs.lemmas.List.{take_all}
-use Rattle.deneva_base.specs.declared.rows.Keyed.{Keyed}
 use Rattle.tpcc_rules.specs.Columns.{text_at}
 use Rattle.tpcc_rules.specs.Names.{by_last_name}
 use Rattle.tpcc_rules.specs.Tables.{c_last}

@@ -1,7 +1,7 @@
-use Rattle.std.proofs.Common.{◌≡◌, ◌∙◌, ap, sym, subst, rules}
+use Rattle.std.proofs.Common.{◌≡◌, sym, subst, rules}
 use Rattle.std.specs.List.{filter}
 use Rattle.deneva_base.specs.Rows.{rows_in}
-use Rattle.tpcc_rules.specs.Names.{by_last_name, is_customer}
+use Rattle.tpcc_rules.specs.Names.{is_customer}
 use Rattle.workload_text.specs.LastNames.{HasMiddles}
 use Rattle.workload_text.proofs.LastNames.{of_customers, number_in}
 use Rattle.workload_text.proofs.loaded.Loaded.customer_named.Goals as goal
