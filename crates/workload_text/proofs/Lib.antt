@@ -2,6 +2,7 @@ pub mod Bound
 pub mod Decimals
 pub mod FileOf
 pub mod FileRecords
+pub mod LastNames
 pub mod Onward
 pub mod Plain
 pub mod Puts

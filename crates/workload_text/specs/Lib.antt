@@ -2,6 +2,7 @@ pub mod Fields
 pub mod Files
 pub mod Gives
 pub mod Grammar
+pub mod LastNames
 pub mod Loading
 pub mod Numbers
 pub mod Reader
