@@ -1,5 +1,5 @@
 //! The rows that were loaded so far, and customers found among them by their last names.
-ghost use Rattle.std.specs.Prelude.{◌≡◌, ◌==◌, [], length, IfOk, OnOk};
+ghost use Rattle.std.specs.Prelude.{◌≡◌, [], length, IfOk, OnOk};
 ghost use Rattle.std.specs.List.{filter};
 ghost use Rattle.deneva_base.specs.Rows.{put, has_key, rows_in};
 ghost use Rattle.deneva_base.specs.declared.rows.Keyed.{Keyed};
@@ -108,12 +108,6 @@ impl Loaded {
         ensures { result ≡ length self.now }
     {
         self.rows.len()
-    }
-
-    pub fn is_empty(&self) -> bool
-        ensures { result ≡ (length self.now == 0) }
-    {
-        self.rows.is_empty()
     }
 
     /// Puts a row at its key.
