@@ -6,6 +6,8 @@ pub mod Onward
 pub mod Plain
 pub mod Puts
 pub mod FirstQuote
+pub mod InOrder
+pub mod ItemPuts
 pub mod RecordText
 pub mod StepByStep
 pub mod ValidFiles
