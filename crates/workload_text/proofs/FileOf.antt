@@ -8,6 +8,7 @@ use Rattle.workload_text.specs.Grammar.{quote_from, unless_quoted, workload_from
 use Rattle.records.specs.Records.{Record, records_of, text_of}
 use Rattle.workload_text.proofs.FileRecords.{file_records, workload_back}
 use Rattle.workload_text.proofs.RecordText.{records_back, unquoted}
+use Rattle.workload_text.proofs.TpccRecords.{tpcc_records}
 use Rattle.workload_text.proofs.WrittenRecords.{records_are_written}
 
 -- the text of its records gives the workload

@@ -97,16 +97,16 @@ head_two fields = record { format = Two; fields = fields }
 
 -- one definition after another, where the first gives a value
 
-then_ok : {A B : Type 0} (r : Result A Flaw) (f : A → Result B Flaw) (x : A) → r ≡ Ok x → (r >>= f) ≡ f x
+pub then_ok : {A B : Type 0} (r : Result A Flaw) (f : A → Result B Flaw) (x : A) → r ≡ Ok x → (r >>= f) ≡ f x
 then_ok r f x e = ap (λ q. q >>= f) e
 
-if_false : {A : Type 0} (t : Bool) (a b : A) → t ≡ false → (if t then a else b) ≡ b
+pub if_false : {A : Type 0} (t : Bool) (a b : A) → t ≡ false → (if t then a else b) ≡ b
 if_false t a b e = ap (λ q. if q then a else b) e
 
-if_true : {A : Type 0} (t : Bool) (a b : A) → t ≡ true → (if t then a else b) ≡ a
+pub if_true : {A : Type 0} (t : Bool) (a b : A) → t ≡ true → (if t then a else b) ≡ a
 if_true t a b e = ap (λ q. if q then a else b) e
 
-number_back : (place low high n : ℕ) → low ≤ n → n ≤ high → n < 2 ^ 64 → number_at place low high (decimal n) ≡ Ok n
+pub number_back : (place low high n : ℕ) → low ≤ n → n ≤ high → n < 2 ^ 64 → number_at place low high (decimal n) ≡ Ok n
 number_back place low high n above below h = ap (placed_at place) (number_in-decimal low high n above below h)
 
 key_back : (place key : ℕ) → is_short key ≡ true → number_at place 0 4294967295 (decimal key) ≡ Ok key
@@ -178,7 +178,10 @@ is_short_row fields r = is_valid_row fields r && is_short r.key.a
 
 short_rows : (fields : ℕ) (rows : List Keyed) → list_all (is_valid_row fields) rows ≡ true → list_all (λ r. is_short r.key.a) rows ≡ true → list_all (is_short_row fields) rows ≡ true
 short_rows fields [] valid short = refl
-short_rows fields (r ∷ rows) valid short = and_from _ _ (and_from _ _ (and_parts _ _ valid).0 (and_parts _ _ short).0) (short_rows fields rows (and_parts _ _ valid).1 (and_parts _ _ short).1)
+short_rows fields (r ∷ rows) valid short = 
+    let v = and_parts (is_valid_row fields r) (list_all (is_valid_row fields) rows) valid in
+    let s = and_parts (is_short r.key.a) (list_all (λ r. is_short r.key.a) rows) short in
+    and_from (is_short_row fields r) (list_all (is_short_row fields) rows) (and_from (is_valid_row fields r) (is_short r.key.a) v.0 s.0) (short_rows fields rows v.1 s.1)
 
 -- a step
 
@@ -347,7 +350,7 @@ end_records = (codes "end" ∷ []) ∷ []
 abbrev pub file_records : Workload → List Record
 file_records work = head_record work.load.fields ∷ (map row_record work.load.rows ++ (map program_record work.programs ++ end_records))
 
-all_new : (rows : List Keyed) → are_new [] rows ≡ true
+pub all_new : (rows : List Keyed) → are_new [] rows ≡ true
 all_new [] = refl
 all_new (r ∷ rows) = all_new rows
 

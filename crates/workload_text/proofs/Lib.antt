@@ -7,8 +7,10 @@ pub mod Plain
 pub mod Puts
 pub mod FirstQuote
 pub mod InOrder
+pub mod Integers
 pub mod ItemPuts
 pub mod RecordText
 pub mod StepByStep
+pub mod TpccRecords
 pub mod ValidFiles
 pub mod WrittenRecords

@@ -20,7 +20,7 @@ use Rattle.workload_text.specs.Files.{is_short, has_short_keys, AreNumbers}
 use Rattle.workload_text.proofs.Decimals.{plain_decimal}
 use Rattle.workload_text.proofs.Plain.{is_plain_record}
 use Rattle.workload_text.proofs.RecordText.{is_written}
-use Rattle.workload_text.proofs.FileRecords.{cell_text, row_record, act_word, act_fields, step_fields, program_record, end_records, file_records, partitions_of}
+use Rattle.workload_text.proofs.FileRecords.{cell_text, row_record, act_word, act_fields, step_fields, program_record, end_records, file_records, parts_of}
 
 decimal_of_few : (fields : ℕ) → fields ≤ 10 → list_all is_plain (decimal fields) ≡ true
 decimal_of_few fields h = plain_decimal fields (omega arith)
@@ -68,7 +68,7 @@ written_programs load (p ∷ ps) few h short =
 
 pub records_are_written : (work : Workload) → IsValid work → AreNumbers work → list_all is_written (file_records work) ≡ true
 records_are_written work valid short =
-    let p = partitions_of work valid in
+    let p = parts_of work valid in
     let keys = and_parts _ _ short in
     and_from _ _ (and_from _ _ (decimal_of_few work.load.fields p.few) refl)
     (list_all-append is_written (map row_record work.load.rows) (map program_record work.programs ++ end_records)
