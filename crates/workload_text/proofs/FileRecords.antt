@@ -307,7 +307,7 @@ txn_back work placed valid room =
 abbrev pub HasYcsbKeys : Load → Type 0
 HasYcsbKeys load = (k : Key) → has_key load.rows k ≡ true → is_ycsb_key k ≡ true
 
-no_warehouse : (load : Load) (w d : ℕ) → HasYcsbKeys load → has_district load w d ≡ true → ⊥
+pub no_warehouse : (load : Load) (w d : ℕ) → HasYcsbKeys load → has_district load w d ≡ true → ⊥
 no_warehouse load w d keys h = true≢false (sym (keys (warehouse_key w) (and_parts _ _ h).0))
 
 program_back : (work : Workload) (p : Program) → HasYcsbKeys work.load → work.load.fields ≤ 10 → is_valid_program work.load p ≡ true → has_short_keys p ≡ true → length work.programs < 10000
@@ -387,6 +387,9 @@ ycsb_keys : (fields : ℕ) (rows : List Keyed) → list_all (is_valid_row fields
 ycsb_keys fields [] h = refl
 ycsb_keys fields (r ∷ rows) h = and_from _ _ (and_parts _ _ (and_parts _ _ h).0).0 (ycsb_keys fields rows (and_parts _ _ h).1)
 
+pub own_ycsb_keys : (work : Workload) → Parts work → HasYcsbKeys work.load
+own_ycsb_keys work p k h = loaded_key is_ycsb_key work.load.rows k (ycsb_keys work.load.fields work.load.rows p.rows) h
+
 -- the records of a valid workload of YCSB give it
 pub ycsb_back : (work : Workload) → Parts work → AreNumbers work → kinds.Ycsb ≡ work.load.kind → workload_from (file_records work) ≡ Ok (in_order work)
 ycsb_back work p short kind =
@@ -396,7 +399,7 @@ ycsb_back work p short kind =
     let out : Workload = record { load = load; programs = work.programs } in
     let head = head_two work.load.fields in
     let after : List Record = map program_record work.programs ++ end_records in
-    let own : HasYcsbKeys load = λ k h. loaded_key is_ycsb_key work.load.rows k (ycsb_keys work.load.fields work.load.rows p.rows) (sym (keys_ordered work.load k) ∙ h) in
+    let own : HasYcsbKeys load = λ k h. own_ycsb_keys work p k (sym (keys_ordered work.load k) ∙ h) in
     ap (λ h. read_from_head h (map row_record work.load.rows ++ after)) (head_back work.load.fields p.some p.few)
     ∙ rows_back (heads.Ycsb head) row_record (is_short_row work.load.fields) (λ w r none v new room. row_back head w r none (and_parts _ _ v).0 (and_parts _ _ v).1 new room)
     2 work.load.rows after (empty (heads.Ycsb head)) out refl (short_rows work.load.fields work.load.rows p.rows keys.0) p.apart (all_new work.load.rows) (rows_fit work p)

@@ -12,5 +12,6 @@ pub mod ItemPuts
 pub mod RecordText
 pub mod StepByStep
 pub mod TpccRecords
+pub mod TpccWritten
 pub mod ValidFiles
 pub mod WrittenRecords

@@ -21,7 +21,9 @@ use Rattle.tpcc_rules.specs.declared.programs.Item.{Item}
 use Rattle.tpcc_rules.specs.declared.programs.Line.{Line}
 use Rattle.tpcc_rules.specs.declared.programs.NewOrder.{NewOrder}
 use Rattle.tpcc_rules.specs.declared.programs.Payment.{Payment}
-use Rattle.txn_program.specs.Valid.{is_plain_cell, is_between, is_warehouse, is_district, is_customer, is_item, is_tpcc_key, is_tpcc_row, is_tpcc_load, is_valid_item, is_valid_program, is_valid_line, is_valid_payment, is_valid_order, has_district, has_customer, are_distinct}
+use Rattle.txn_program.specs.Valid.{is_plain_cell, is_line_of_numbers, is_valid_step, is_valid_act, is_between, is_warehouse, is_district, is_customer, is_item, is_tpcc_key, is_tpcc_row, is_tpcc_load, is_valid_item, is_valid_program, is_valid_line, is_valid_payment, is_valid_order, has_district, has_customer, are_distinct}
+use Rattle.txn_program.specs.Transactions.{ycsb_key}
+use Rattle.txn_program.specs.declared.programs.YcsbStep.{YcsbStep}
 use Rattle.txn_program.specs.declared.programs.Program.{Program}
 use Rattle.txn_program.specs.declared.programs.Program.TheVariants as programs
 use Rattle.txn_program.specs.declared.programs.WorkKind.{WorkKind}
@@ -187,14 +189,14 @@ own_table r h =
         | inr b ↦ elim (cases_Bool (r.key.table == 3)) [
           | inl three ↦ rw (a, b, three) (and_from _ _ (and_from _ _ three key.0) (rw (a, b, three) at key.1), rw (a, b, three) at row)
           | inr c ↦ elim (cases_Bool (r.key.table == 4)) [
-            | inl four ↦ rw (a, b, c, four) (and_from _ _ (and_from _ _ four key.0) (rw (a, b, c, four) at key.1), rw (a, b, c, four) at row)
+            | inl four ↦ rw (a, b, c, four) (and_from _ _ (and_from _ _ refl key.0) (rw (a, b, c, four) at key.1), rw (a, b, c, four) at row)
             | inr d ↦ absurd (false≢true (rw (a, b, c, d) at key.1))
           ]
         ]
       ]
     ]
 
-held_columns : (table : Table) → list_all is_held (columns_of table) ≡ true
+pub held_columns : (table : Table) → list_all is_held (columns_of table) ≡ true
 held_columns Warehouse = refl
 held_columns District = refl
 held_columns Customer = refl
@@ -410,3 +412,196 @@ payment_back work p keys h room =
     ∙ then_ok (place_known work p.w p.d) _ tt (place_back work p.w p.d parts.district)
     ∙ then_ok (payer_of work p.cw p.cd (Numbered p.c)) _ p.c (then_ok (known_at work 7 (customer_key p.cw p.cd p.c)) _ tt (known_back work 7 (customer_key p.cw p.cd p.c) parts.customer))
     ∙ run_back work (programs.Payment p) room
+
+-- an order
+
+pub lines_of_numbers : (load : Load) (lines : List Line) → list_all (is_valid_line load) lines ≡ true → list_all is_line_of_numbers lines ≡ true
+lines_of_numbers load [] h = refl
+lines_of_numbers load (line ∷ lines) h =
+    let p = and_parts (is_valid_line load line) (list_all (is_valid_line load) lines) h in
+    let q = and_parts (is_line_of_numbers line) (not (is_loaded load.items line) || has_key load.rows (stock_of line)) p.0 in
+    and_from (is_line_of_numbers line) (list_all is_line_of_numbers lines) q.0 (lines_of_numbers load lines p.1)
+
+-- what the numbers of a line tell
+pub line_ranges : (line : Line) → is_line_of_numbers line ≡ true → (is_item line.item ≡ true) × (is_warehouse line.supplier ≡ true) × (is_between 1 10 line.quantity ≡ true)
+line_ranges line h =
+    let p = and_parts (is_item line.item && is_warehouse line.supplier) (is_between 1 10 line.quantity) h in
+    let q = and_parts (is_item line.item) (is_warehouse line.supplier) p.0 in
+    (q.0, q.1, p.1)
+
+line_back : (n m : ℕ) (line : Line) (r more : Record) → n ≡ m + 1 → drop m r ≡ line_fields line ++ more → is_line_of_numbers line ≡ true → line_at n r ≡ Ok line
+line_back n m line r more place e h =
+    let ranges = line_ranges line h in
+    let second : n + 1 ≡ suc m + 1 = omega arith in
+    let third : n + 2 ≡ suc (suc m) + 1 = omega arith in
+    let e1 = (at_drop m r (decimal line.item) (decimal line.supplier ∷ decimal line.quantity ∷ more) e).1 in
+    let e2 = (at_drop (suc m) r (decimal line.supplier) (decimal line.quantity ∷ more) e1).1 in
+    then_ok (item_at n r) _ line.item
+    (ap (number_at n 1 1000000) (field_back n m r (decimal line.item) (decimal line.supplier ∷ decimal line.quantity ∷ more) place e) ∙ ranged_back n 1 1000000 line.item ranges.0 (omega arith))
+    ∙ then_ok (warehouse_at (n + 1) r) _ line.supplier
+    (ap (number_at (n + 1) 1 65535) (field_back (n + 1) (suc m) r (decimal line.supplier) (decimal line.quantity ∷ more) second e1) ∙ ranged_back (n + 1) 1 65535 line.supplier ranges.1 (omega arith))
+    ∙ then_ok (number_at (n + 2) 1 10 (field_at (n + 2) r)) _ line.quantity
+    (ap (number_at (n + 2) 1 10) (field_back (n + 2) (suc (suc m)) r (decimal line.quantity) more third e2) ∙ ranged_back (n + 2) 1 10 line.quantity ranges.2 (omega arith))
+
+lines_back : (n m : ℕ) (lines : List Line) (r : Record) → n ≡ m + 1 → drop m r ≡ flat_map line_fields lines → list_all is_line_of_numbers lines ≡ true → lines_from (length lines) n r ≡ Ok lines
+lines_back n m [] r place e h = refl
+lines_back n m (line ∷ lines) r place e h =
+    let p = and_parts (is_line_of_numbers line) (list_all is_line_of_numbers lines) h in
+    let more : Record = flat_map line_fields lines in
+    let next : n + 3 ≡ suc (suc (suc m)) + 1 = omega arith in
+    let e1 = (at_drop m r (decimal line.item) (decimal line.supplier ∷ decimal line.quantity ∷ more) e).1 in
+    let e2 = (at_drop (suc m) r (decimal line.supplier) (decimal line.quantity ∷ more) e1).1 in
+    let e3 = (at_drop (suc (suc m)) r (decimal line.quantity) more e2).1 in
+    then_ok (line_at n r) _ line (line_back n m line r more place e p.0)
+    ∙ then_ok (lines_from (length lines) (n + 3) r) _ lines (lines_back (n + 3) (suc (suc (suc m))) lines r next e3 p.1)
+
+three_each : (lines : List Line) → length (flat_map line_fields lines) ≡ 3 * length lines
+three_each [] = refl
+three_each (line ∷ lines) = omega (arith, three_each lines)
+
+order_length : (o : NewOrder) → length (order_record o) ≡ 4 + 3 * length o.lines
+order_length o = omega (arith, three_each o.lines)
+
+ordered_back : (o : NewOrder) → is_warehouse o.w ≡ true → is_district o.d ≡ true → is_customer o.c ≡ true → list_all is_line_of_numbers o.lines ≡ true → ordered_from (order_record o) ≡ Ok o
+ordered_back o w d c h =
+    let count : (length (order_record o) - 4) / 3 ≡ length o.lines = omega (arith, order_length o) in
+    then_ok (number_at 2 1 65535 (decimal o.w)) _ o.w (ranged_back 2 1 65535 o.w w (omega arith))
+    ∙ then_ok (number_at 3 1 100 (decimal o.d)) _ o.d (ranged_back 3 1 100 o.d d (omega arith))
+    ∙ then_ok (number_at 4 1 100000 (decimal o.c)) _ o.c (ranged_back 4 1 100000 o.c c (omega arith))
+    ∙ then_ok (lines_from ((length (order_record o) - 4) / 3) 5 (order_record o)) _ o.lines
+    (ap (λ k. lines_from k 5 (order_record o)) count ∙ lines_back 5 4 o.lines (order_record o) (omega arith) refl h)
+
+stock_back : (work : Workload) (n : ℕ) (line : Line) → is_valid_line work.load line ≡ true → stock_known work n line ≡ Ok tt
+stock_back work n line h = elim (cases_Bool (is_loaded work.load.items line)) [
+  | inl sold ↦
+      if_true (is_loaded work.load.items line) _ _ sold
+      ∙ known_back work (n + 1) (stock_of line) (rw sold at (and_parts (is_line_of_numbers line) (not (is_loaded work.load.items line) || has_key work.load.rows (stock_of line)) h).1)
+  | inr unsold ↦ if_false (is_loaded work.load.items line) _ _ unsold
+]
+
+stocks_back : (work : Workload) (n : ℕ) (lines : List Line) → list_all (is_valid_line work.load) lines ≡ true → stocks_known work n lines ≡ Ok tt
+stocks_back work n [] h = refl
+stocks_back work n (line ∷ lines) h =
+    let p = and_parts (is_valid_line work.load line) (list_all (is_valid_line work.load) lines) h in
+    then_ok (stock_known work n line) _ tt (stock_back work n line p.0) ∙ stocks_back work (n + 3) lines p.1
+
+-- what a valid order tells
+pub record OrderParts (load : Load) (o : NewOrder) : Type 0 where
+  pub some : 1 ≤ length o.lines
+  pub few : length o.lines ≤ 15
+  pub lines : list_all (is_valid_line load) o.lines ≡ true
+  pub district : has_district load o.w o.d ≡ true
+  pub customer : has_customer load o.w o.d o.c ≡ true
+
+pub order_parts : (load : Load) (o : NewOrder) → is_valid_order load o ≡ true → OrderParts load o
+order_parts load o h =
+    let a = and_parts (is_between 1 15 (length o.lines) && list_all (is_valid_line load) o.lines && has_district load o.w o.d) (has_customer load o.w o.d o.c) h in
+    let b = and_parts (is_between 1 15 (length o.lines) && list_all (is_valid_line load) o.lines) (has_district load o.w o.d) a.0 in
+    let c = and_parts (is_between 1 15 (length o.lines)) (list_all (is_valid_line load) o.lines) b.0 in
+    let d = and_parts (nat_le 1 (length o.lines)) (nat_le (length o.lines) 15) c.0 in
+    record { some = leb-true _ _ d.0; few = leb-true _ _ d.1; lines = c.1; district = b.1; customer = a.1 }
+
+order_back : (work : Workload) (o : NewOrder) → HasTpccKeys work.load → is_valid_order work.load o ≡ true → length work.programs < 10000
+    → said_by heads.Tpcc work (order_record o) ≡ Ok (Runs (programs.NewOrder o))
+order_back work o keys h room =
+    let parts = order_parts work.load o h in
+    let of = customer_ranges work.load o.w o.d o.c keys parts.customer in
+    let some : 1 ≤ length o.lines = parts.some in
+    let long : 7 ≤ length (order_record o) = omega (arith, order_length o, some) in
+    let whole : (length (order_record o) - 4) % 3 ≡ 0 = omega (arith, order_length o) in
+    if_false (nat_lt (length (order_record o)) 7 || not ((length (order_record o) - 4) % 3 == 0)) _ _
+    (or_from _ _ (le-ltb (length (order_record o)) 7 long) (not_from_true _ (eq-eqb _ _ whole)))
+    ∙ then_ok (ordered_from (order_record o)) _ o (ordered_back o of.0 of.1 of.2 (lines_of_numbers work.load o.lines parts.lines))
+    ∙ then_ok (place_known work o.w o.d) _ tt (place_back work o.w o.d parts.district)
+    ∙ then_ok (known_at work 4 (customer_key o.w o.d o.c)) _ tt (known_back work 4 (customer_key o.w o.d o.c) parts.customer)
+    ∙ then_ok (stocks_known work 5 o.lines) _ tt (stocks_back work 5 o.lines parts.lines)
+    ∙ if_false (nat_lt 15 (length o.lines)) _ _ (le-ltb 15 (length o.lines) parts.few)
+    ∙ run_back work (programs.NewOrder o) room
+
+-- no row has a key of YCSB
+pub no_steps : (load : Load) (steps : List YcsbStep) → HasTpccKeys load → is_valid_program load (programs.Ycsb steps) ≡ true → ⊥
+no_steps load [] keys h = false≢true h
+no_steps load (step ∷ steps) keys h =
+    let few = nat_le 1 (length (step ∷ steps)) && nat_le (length (step ∷ steps)) 16 in
+    let all = list_all (is_valid_step load) (step ∷ steps) in
+    let a = and_parts (few && all) (are_distinct (map (λ step. ycsb_key step.key) (step ∷ steps))) h in
+    let b = and_parts few all a.0 in
+    let c = and_parts (is_valid_step load step) (list_all (is_valid_step load) steps) b.1 in
+    let d = and_parts (has_key load.rows (ycsb_key step.key)) (is_valid_act load.fields step.act) c.0 in
+    false≢true (and_parts (is_warehouse step.key) false (keys (ycsb_key step.key) d.0)).1
+
+program_said : (work : Workload) (p : Program) → HasTpccKeys work.load → is_valid_program work.load p ≡ true → length work.programs < 10000 → said_by heads.Tpcc work (program_record p) ≡ Ok (Runs p)
+program_said work (programs.Ycsb steps) keys h room = absurd (no_steps work.load steps keys h)
+program_said work (programs.Payment p) keys h room = payment_back work p keys h room
+program_said work (programs.NewOrder o) keys h room = order_back work o keys h room
+
+program_at : (work : Workload) (p : Program) (load : Load) → work.load ≡ load → HasTpccKeys load → is_valid_program load p ≡ true → length work.programs < 10000
+    → said_by heads.Tpcc work (program_record p) ≡ Ok (Runs p)
+program_at work p load e own valid room =
+    program_said work p (subst HasTpccKeys (sym e) own) (subst (λ (l : Load). is_valid_program l p ≡ true) (sym e) valid) room
+
+-- the bounds and tests of a valid workload of TPC-C
+pub record TpccParts (work : Workload) : Type 0 where
+  pub fields : work.load.fields ≡ 0
+  pub room : length work.load.rows ≤ 1000000
+  pub rows : list_all is_tpcc_row work.load.rows ≡ true
+  pub apart : are_distinct (map (λ r. r.key) work.load.rows) ≡ true
+  pub space : length work.load.items ≤ 100000
+  pub items : list_all is_valid_item work.load.items ≡ true
+  pub own : have_own_numbers work.load.items ≡ true
+  pub turns : length work.programs ≤ 10000
+  pub programs : list_all (is_valid_program work.load) work.programs ≡ true
+
+pub tpcc_parts_of : (work : Workload) → is_tpcc_load work.load ≡ true → nat_le (length work.programs) 10000 ≡ true → list_all (is_valid_program work.load) work.programs ≡ true → TpccParts work
+tpcc_parts_of work load turns programs =
+    let a = and_parts _ _ load in
+    let b = and_parts _ _ a.0 in
+    let c = and_parts _ _ b.0 in
+    let d = and_parts _ _ c.0 in
+    let rows = and_parts _ _ d.1 in
+    let long = and_parts _ _ rows.0 in
+    record {
+      fields = eqb-true _ _ d.0;
+      room = leb-true _ _ long.0;
+      rows = long.1;
+      apart = rows.1;
+      space = leb-true _ _ c.1;
+      items = b.1;
+      own = a.1;
+      turns = leb-true _ _ turns;
+      programs = programs;
+    }
+
+tpcc_keys : (rows : List Keyed) → list_all is_tpcc_row rows ≡ true → list_all (λ r. is_tpcc_key r.key) rows ≡ true
+tpcc_keys [] h = refl
+tpcc_keys (r ∷ rows) h =
+    let p = and_parts (is_tpcc_row r) (list_all is_tpcc_row rows) h in
+    let q = and_parts (is_tpcc_key r.key && is_loaded_row r.key r.row) (list_all is_plain_cell r.row) p.0 in
+    let s = and_parts (is_tpcc_key r.key) (is_loaded_row r.key r.row) q.0 in
+    and_from (is_tpcc_key r.key) (list_all (λ r. is_tpcc_key r.key) rows) s.0 (tpcc_keys rows p.1)
+
+pub own_tpcc_keys : (work : Workload) → TpccParts work → HasTpccKeys work.load
+own_tpcc_keys work p k h = loaded_key is_tpcc_key work.load.rows k (tpcc_keys work.load.rows p.rows) h
+
+-- the records of a valid workload of TPC-C give it
+pub tpcc_back : (work : Workload) → TpccParts work → list_all has_short_keys work.programs ≡ true → kinds.Tpcc ≡ work.load.kind → workload_from (tpcc_records work) ≡ Ok (in_order work)
+tpcc_back work p short kind =
+    let load : Load = record { kind = kinds.Tpcc; fields = 0; rows = in_key_order work.load.rows; items = by_number work.load.items } in
+    let same : load ≡ ordered work.load = λ i. record { kind = kind i; fields = sym p.fields i; rows = in_key_order work.load.rows; items = by_number work.load.items } in
+    let out : Workload = record { load = load; programs = work.programs } in
+    let after : List Record = map program_record work.programs ++ end_records in
+    let own : HasTpccKeys load = λ k h. own_tpcc_keys work p k (sym (keys_ordered work.load k) ∙ h) in
+    rows_back heads.Tpcc tpcc_row_record is_tpcc_row row_said 2 work.load.rows (map item_record work.load.items ++ after) (empty heads.Tpcc) out refl p.rows p.apart (all_new work.load.rows) (rows_fit work p)
+    (λ m. items_back m work.load.items after (record { load = record { kind = kinds.Tpcc; fields = 0; rows = in_key_order work.load.rows; items = [] }; programs = [] }) out refl p.items p.own (none_sold work.load.items) (items_fit work p)
+    (λ k. programs_back heads.Tpcc load k [] work.programs work.programs end_records out (λ w q e v s r. program_at w q load e own v r)
+    (subst (λ (l : Load). list_all (is_valid_program l) work.programs ≡ true) (sym same) (programs_ordered work.load work.programs p.programs)) short (programs_fit work p) refl (λ j. refl)))
+    ∙ ap (λ (l : Load). Ok (record { load = l; programs = work.programs })) same
+  where
+    rows_fit : (work : Workload) → TpccParts work → 0 + length work.load.rows ≤ 1000000
+    rows_fit work p = let h : length work.load.rows ≤ 1000000 = p.room in omega arith
+
+    items_fit : (work : Workload) → TpccParts work → 0 + length work.load.items ≤ 100000
+    items_fit work p = let h : length work.load.items ≤ 100000 = p.space in omega arith
+
+    programs_fit : (work : Workload) → TpccParts work → 0 + length work.programs ≤ 10000
+    programs_fit work p = let h : length work.programs ≤ 10000 = p.turns in omega arith
