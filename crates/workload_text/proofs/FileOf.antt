@@ -1,5 +1,5 @@
 -- A file of each valid workload.
-use Rattle.std.proofs.Common.{◌≡◌, ◌∙◌, ℕ, true, ◌&&◌, List, map, length, Option, Ok, refl, ap, subst}
+use Rattle.std.proofs.Common.{◌≡◌, ◌∙◌, ℕ, true, ◌&&◌, List, map, length, Option, Ok, refl, ap}
 use Rattle.std.specs.Prelude.{nat_le}
 use Rattle.std.specs.List.{list_all}
 use Rattle.std.proofs.lemmas.Bool.{and_parts}
@@ -9,7 +9,7 @@ use Rattle.txn_program.specs.declared.programs.WorkKind.{WorkKind}
 use Rattle.txn_program.specs.declared.programs.WorkKind.TheVariants as kinds
 use Rattle.txn_program.specs.declared.programs.Workload.{Workload}
 use Rattle.workload_text.specs.declared.faults.InputFault.{InputFault}
-use Rattle.workload_text.specs.Files.{AreNumbers, has_short_keys, in_order}
+use Rattle.workload_text.specs.Files.{AreNumbers, in_order}
 use Rattle.workload_text.specs.Grammar.{quote_from, unless_quoted, workload_from, workload_of}
 use Rattle.workload_text.proofs.FileRecords.{file_records, parts_of, ycsb_back}
 use Rattle.workload_text.proofs.RecordText.{is_written, records_back, unquoted}

@@ -1,8 +1,8 @@
 -- What holds of a load holds of it in order.
-use Rattle.std.proofs.Common.{◌≡◌, ℕ, ◌+◌, ◌==◌, Bool, true, false, not, ◌&&◌, ◌||◌, List, [], ◌∷◌, length, refl, sym, ap, ◌∙◌, subst, inl, inr}
+use Rattle.std.proofs.Common.{◌≡◌, ℕ, Bool, true, ◌&&◌, ◌||◌, List, [], ◌∷◌, length, refl, sym, ap, ◌∙◌, subst, inl, inr}
 use Rattle.std.specs.Prelude.{map, nat_le}
-use Rattle.std.specs.List.{list_all, fold}
-use Rattle.std.proofs.lemmas.Bool.{and_parts, and_from, true≢false, or_cases}
+use Rattle.std.specs.List.{list_all}
+use Rattle.std.proofs.lemmas.Bool.{and_parts, and_from, true≢false}
 use Rattle.deneva_base.specs.Keys.{key_eq}
 use Rattle.deneva_base.specs.Rows.{has_key, put, put_all, in_key_order}
 use Rattle.deneva_base.specs.declared.keys.Key.{Key}
@@ -18,7 +18,7 @@ use Rattle.txn_program.specs.declared.programs.YcsbStep.{YcsbStep}
 use Rattle.txn_program.specs.declared.programs.Program.{Program}
 use Rattle.txn_program.specs.declared.programs.Program.TheVariants as programs
 use Rattle.txn_program.specs.declared.programs.Load.{Load}
-use Rattle.workload_text.specs.SortedItems.{put_item, by_number}
+use Rattle.workload_text.specs.SortedItems.{by_number}
 use Rattle.workload_text.proofs.ItemPuts.{has_item-puts, or_move, or_none}
 use Rattle.workload_text.proofs.Puts.{has_key-put}
 

@@ -1,15 +1,14 @@
 -- A number with its sign is a number of a file.
-use Rattle.std.proofs.Common.{◌≡◌, ℕ, zero, suc, ◌+◌, ◌-◌, ◌^◌, ◌≤◌, ◌<◌, Bool, true, false, not, ◌&&◌, ◌||◌, ◌==◌, List, [], ◌∷◌, refl, sym, ap, ◌∙◌, arith, Ok, Err, inl, inr}
+use Rattle.std.proofs.Common.{◌≡◌, ℕ, suc, ◌-◌, ◌^◌, ◌≤◌, ◌<◌, true, false, not, ◌&&◌, List, [], ◌∷◌, refl, sym, ap, ◌∙◌, arith, Ok, Err, inl, inr}
 use Rattle.std.specs.Prelude.{ℤ, pos, negsuc, neg_ℤ, int_le, int_lt, codes, if◌then◌else◌}
 use Rattle.std.specs.Fmt.{decimal}
 use Rattle.std.specs.List.{list_all}
 use Rattle.std.specs.Str.{bytes_eq}
-use Rattle.std.proofs.lemmas.Bool.{and_parts, and_from, leb-true, le-leb, ne_eqb, true≢false, false≢true, not_from_true, not_from_false, or_left, or_right, cases_Bool}
+use Rattle.std.proofs.lemmas.Bool.{and_parts, and_from, leb-true, ne_eqb, false≢true, not_from_true, not_from_false, or_left, or_right, cases_Bool}
 use Rattle.std.proofs.lemmas.Slice.Eq.{bytes_eq-Decides}
 use Rattle.txn_program.specs.Valid.{is_plain}
-use Rattle.workload_text.specs.declared.faults.FaultKind.{FaultKind}
 use Rattle.workload_text.specs.declared.faults.FaultKind.TheVariants.{OutOfRange}
-use Rattle.workload_text.specs.Numbers.{is_digit, is_number, value_of, has_sign, is_below_0, integer_of, is_integer, integer_in}
+use Rattle.workload_text.specs.Numbers.{is_digit, value_of, has_sign, integer_of, is_integer, integer_in}
 use Rattle.workload_text.proofs.Decimals.{digits_of_decimal, is_number-decimal, value_of-decimal, plain_decimal}
 use Rattle.workload_text.proofs.FileRecords.{signed, if_false, if_true}
 

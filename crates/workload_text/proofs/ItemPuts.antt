@@ -1,6 +1,6 @@
 -- An item put among items in the order of their numbers.
 use Rattle.std.proofs.Common.{◌≡◌, ℕ, ◌+◌, ◌==◌, Bool, true, false, ◌||◌, List, [], ◌∷◌, length, refl, sym, ap, ◌∙◌, arith}
-use Rattle.std.specs.List.{list_all, fold}
+use Rattle.std.specs.List.{fold}
 use Rattle.std.specs.Ordering.{nat_cmp, match_ordering}
 use Rattle.std.specs.declared.cmp.Ordering.{Ordering}
 use Rattle.std.specs.declared.cmp.Ordering.TheVariants.{Less, Equal, Greater}
@@ -8,7 +8,7 @@ use Rattle.std.proofs.lemmas.Bool.{or_parts, true≢false, eq-eqb}
 use Rattle.std.proofs.lemmas.Map.Lookups.{exact_unsigned}
 use Rattle.tpcc_rules.specs.Items.{has_item}
 use Rattle.tpcc_rules.specs.declared.programs.Item.{Item}
-use Rattle.workload_text.specs.SortedItems.{put_item, by_number}
+use Rattle.workload_text.specs.SortedItems.{put_item}
 use Rattle.workload_text.proofs.Puts.{or_twice, or_swap}
 
 -- equal numbers compare as equal, and no others

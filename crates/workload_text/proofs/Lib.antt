@@ -11,7 +11,10 @@ pub mod Integers
 pub mod ItemPuts
 pub mod RecordText
 pub mod StepByStep
+pub mod TpccItems
+pub mod TpccPrograms
 pub mod TpccRecords
+pub mod TpccRows
 pub mod TpccWritten
 pub mod ValidFiles
 pub mod WrittenRecords

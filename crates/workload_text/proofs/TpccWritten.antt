@@ -1,5 +1,5 @@
 -- Each record of a workload of TPC-C can be written as a line.
-use Rattle.std.proofs.Common.{◌≡◌, ℕ, ◌^◌, ◌≤◌, ◌<◌, Bool, true, false, ◌&&◌, List, [], ◌∷◌, ◌++◌, map, length, refl, ◌∙◌, arith}
+use Rattle.std.proofs.Common.{◌≡◌, ℕ, ◌^◌, ◌≤◌, ◌<◌, Bool, true, false, ◌&&◌, ◌==◌, List, [], ◌∷◌, ◌++◌, map, refl, ◌∙◌, arith}
 use Rattle.std.specs.Prelude.{pos, int_le, nat_le}
 use Rattle.std.specs.Fmt.{decimal}
 use Rattle.std.specs.List.{list_all, flat_map}
@@ -17,7 +17,7 @@ use Rattle.tpcc_rules.specs.declared.programs.Line.{Line}
 use Rattle.tpcc_rules.specs.declared.programs.NewOrder.{NewOrder}
 use Rattle.tpcc_rules.specs.declared.programs.Payment.{Payment}
 use Rattle.records.specs.Records.{Record}
-use Rattle.txn_program.specs.Valid.{is_plain, is_between, is_plain_cell, is_item, is_tpcc_key, is_tpcc_row, is_valid_item, is_valid_program, is_valid_payment, is_valid_order, is_line_of_numbers}
+use Rattle.txn_program.specs.Valid.{is_plain, is_between, is_plain_cell, is_warehouse, is_district, is_customer, is_item, is_tpcc_key, is_tpcc_row, is_valid_item, is_valid_program, is_valid_payment, is_valid_order, is_line_of_numbers}
 use Rattle.tpcc_rules.specs.Tables.{is_loaded_row}
 use Rattle.txn_program.specs.declared.programs.Program.{Program}
 use Rattle.txn_program.specs.declared.programs.Program.TheVariants as programs
@@ -28,10 +28,13 @@ use Rattle.workload_text.specs.declared.tables.Table.TheVariants.{Warehouse, Dis
 use Rattle.workload_text.specs.Tpcc.{columns_of}
 use Rattle.workload_text.proofs.Decimals.{plain_decimal}
 use Rattle.workload_text.proofs.FileRecords.{cell_text, payment_record, line_fields, order_record, program_record, end_records}
-use Rattle.workload_text.proofs.Integers.{IsSmall, plain_signed}
+use Rattle.workload_text.proofs.Integers.{plain_signed}
 use Rattle.workload_text.proofs.Plain.{is_plain_record}
 use Rattle.workload_text.proofs.RecordText.{is_written}
-use Rattle.workload_text.proofs.TpccRecords.{table_record, table_at, key_fields, tpcc_row_record, item_data, item_record, tpcc_records, is_held, held_columns, small_cell, is_key_of, IsRowOf, own_table, small_price, HasTpccKeys, own_tpcc_keys, district_ranges, customer_ranges, payment_parts, small_amount, lines_of_numbers, line_ranges, order_parts, no_steps, TpccParts}
+use Rattle.workload_text.proofs.TpccItems.{item_data, item_record, small_price}
+use Rattle.workload_text.proofs.TpccPrograms.{HasTpccKeys, district_ranges, customer_ranges, payment_parts, small_amount, lines_of_numbers, line_ranges, order_parts, no_steps}
+use Rattle.workload_text.proofs.TpccRecords.{tpcc_records, own_tpcc_keys, TpccParts}
+use Rattle.workload_text.proofs.TpccRows.{table_record, table_at, key_fields, tpcc_row_record, is_held, held_columns, small_cell, is_key_of, IsRowOf, own_table}
 use Rattle.workload_text.proofs.WrittenRecords.{each_written}
 
 ranged_plain : (low high n : ℕ) → is_between low high n ≡ true → high < 2 ^ 64 → list_all is_plain (decimal n) ≡ true
@@ -59,18 +62,25 @@ plain_cells (column ∷ columns) (cell ∷ row) held h plain =
 
 plain_key : (table : Table) (key : Key) → is_key_of table key ≡ true → is_plain_record (key_fields table key) ≡ true
 plain_key Warehouse key h =
-    let p = and_parts _ _ h in
-    and_from _ _ (ranged_plain 1 65535 key.a (and_parts _ _ p.0).1 (omega arith)) refl
+    let p = and_parts ((key.table == 1) && is_warehouse key.a) ((key.b == 0) && (key.c == 0)) h in
+    let q = and_parts (key.table == 1) (is_warehouse key.a) p.0 in
+    and_from _ _ (ranged_plain 1 65535 key.a q.1 (omega arith)) refl
 plain_key District key h =
-    let p = and_parts _ _ h in
-    and_from _ _ (ranged_plain 1 65535 key.a (and_parts _ _ p.0).1 (omega arith)) (and_from _ _ (ranged_plain 1 100 key.b (and_parts _ _ p.1).0 (omega arith)) refl)
+    let p = and_parts ((key.table == 2) && is_warehouse key.a) (is_district key.b && (key.c == 0)) h in
+    let q = and_parts (key.table == 2) (is_warehouse key.a) p.0 in
+    let s = and_parts (is_district key.b) (key.c == 0) p.1 in
+    and_from _ _ (ranged_plain 1 65535 key.a q.1 (omega arith)) (and_from _ _ (ranged_plain 1 100 key.b s.0 (omega arith)) refl)
 plain_key Customer key h =
-    let p = and_parts _ _ h in
-    and_from _ _ (ranged_plain 1 65535 key.a (and_parts _ _ p.0).1 (omega arith))
-    (and_from _ _ (ranged_plain 1 100 key.b (and_parts _ _ p.1).0 (omega arith)) (and_from _ _ (ranged_plain 1 100000 key.c (and_parts _ _ p.1).1 (omega arith)) refl))
+    let p = and_parts ((key.table == 3) && is_warehouse key.a) (is_district key.b && is_customer key.c) h in
+    let q = and_parts (key.table == 3) (is_warehouse key.a) p.0 in
+    let s = and_parts (is_district key.b) (is_customer key.c) p.1 in
+    and_from _ _ (ranged_plain 1 65535 key.a q.1 (omega arith))
+    (and_from _ _ (ranged_plain 1 100 key.b s.0 (omega arith)) (and_from _ _ (ranged_plain 1 100000 key.c s.1 (omega arith)) refl))
 plain_key Stock key h =
-    let p = and_parts _ _ h in
-    and_from _ _ (ranged_plain 1 65535 key.a (and_parts _ _ p.0).1 (omega arith)) (and_from _ _ (ranged_plain 1 1000000 key.b (and_parts _ _ p.1).0 (omega arith)) refl)
+    let p = and_parts ((key.table == 4) && is_warehouse key.a) (is_item key.b && (key.c == 0)) h in
+    let q = and_parts (key.table == 4) (is_warehouse key.a) p.0 in
+    let s = and_parts (is_item key.b) (key.c == 0) p.1 in
+    and_from _ _ (ranged_plain 1 65535 key.a q.1 (omega arith)) (and_from _ _ (ranged_plain 1 1000000 key.b s.0 (omega arith)) refl)
 
 plain_fields : (table : Table) (r : Keyed) → IsRowOf table r → list_all is_plain_cell r.row ≡ true → is_plain_record (key_fields table r.key ++ map cell_text r.row) ≡ true
 plain_fields table r own plain =
