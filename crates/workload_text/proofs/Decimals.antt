@@ -20,9 +20,12 @@ without_zero [] h first = absurd (omega arith)
 without_zero (b ∷ []) h first = (and_parts _ _ h).0
 without_zero (b ∷ c ∷ ds) h first = and_from _ _ (and_from _ _ (and_parts _ _ h).0 (not_from_false _ (ne_eqb b 48 (λ e. absurd (omega arith))))) (and_parts _ _ h).1
 
-is_number-decimal : (n : ℕ) → n < 2 ^ 64 → is_number (decimal n) ≡ true
+pub is_number-decimal : (n : ℕ) → n < 2 ^ 64 → is_number (decimal n) ≡ true
 is_number-decimal zero h = ap is_number (decimal_digit 0 (omega arith))
 is_number-decimal (suc n) h = without_zero (decimal (suc n)) (digits_of_decimal (suc n) h) (first_decimal (suc n) (omega arith) h)
+
+pub value_of-decimal : (n : ℕ) → n < 2 ^ 64 → value_of (decimal n) ≡ n
+value_of-decimal n h = digits_value-decimal own n h
 
 -- a number between the limits is read from its decimal
 pub number_in-decimal : (low high n : ℕ) → low ≤ n → n ≤ high → n < 2 ^ 64 → number_in low high (decimal n) ≡ Ok n

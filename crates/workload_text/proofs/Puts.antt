@@ -63,11 +63,11 @@ length-put [] w h = refl
 length-put (r ∷ rows) w h =
     length_at (key_cmp w.key r.key) w r rows (put rows w) refl (or_parts _ _ h).0 (length-put rows w (or_parts _ _ h).1)
 
-or_twice : (a h : Bool) → (a || h) ≡ (a || (a || h))
+pub or_twice : (a h : Bool) → (a || h) ≡ (a || (a || h))
 or_twice true h = refl
 or_twice false h = refl
 
-or_swap : (a b h : Bool) → (b || (a || h)) ≡ (a || (b || h))
+pub or_swap : (a b h : Bool) → (b || (a || h)) ≡ (a || (b || h))
 or_swap true true h = refl
 or_swap true false h = refl
 or_swap false b h = refl
