@@ -177,7 +177,7 @@ is_short_row fields r = is_valid_row fields r && is_short r.key.a
 
 short_rows : (fields : ℕ) (rows : List Keyed) → list_all (is_valid_row fields) rows ≡ true → list_all (λ r. is_short r.key.a) rows ≡ true → list_all (is_short_row fields) rows ≡ true
 short_rows fields [] valid short = refl
-short_rows fields (r ∷ rows) valid short = 
+short_rows fields (r ∷ rows) valid short =
     let v = and_parts (is_valid_row fields r) (list_all (is_valid_row fields) rows) valid in
     let s = and_parts (is_short r.key.a) (list_all (λ r. is_short r.key.a) rows) short in
     and_from (is_short_row fields r) (list_all (is_short_row fields) rows) (and_from (is_valid_row fields r) (is_short r.key.a) v.0 s.0) (short_rows fields rows v.1 s.1)

@@ -1,5 +1,5 @@
 -- The entries of a `BTreeMap` from numbers to sales, as items in the order of their numbers.
-use Rattle.std.proofs.Common.{◌≡◌, ℕ, List, [], ◌∷◌, map, refl, ap, arith, Bool, true, false, ◌||◌, cond, Option, Some, eqb}
+use Rattle.std.proofs.Common.{◌≡◌, ℕ, List, [], ◌∷◌, refl, ap, arith, Bool, true, false, ◌||◌, cond, Option, Some, eqb}
 use Rattle.std.specs.Prelude.{is_some}
 use Rattle.std.specs.declared.cmp.Ordering.{Ordering}
 use Rattle.std.specs.declared.cmp.Ordering.TheVariants.{Less, Equal, Greater}

@@ -111,9 +111,11 @@ none_passes p q within (r ∷ rows) e = step (p r) (filter p rows) (not_here (p 
     step : (b : Bool) (rest : List Keyed) → b ≡ false → rest ≡ [] → cond b (r ∷ rest) rest ≡ []
     step true rest h e = absurd (true≢false h)
     step false rest h e = e
+
     or_false : (x y : Bool) → (x || y) ≡ false → (x ≡ false) × (y ≡ false)
     or_false true y f = absurd (true≢false f)
     or_false false y f = (refl, f)
+
     not_here : (b : Bool) → p r ≡ b → p r ≡ false
     not_here true h = absurd (true≢false (sym (within r h) ∙ (or_false (q r) (list_any q rows) e).0))
     not_here false h = h

@@ -1,5 +1,5 @@
 -- The lines of an order's record, one line after another.
-use Rattle.std.proofs.Common.{◌≡◌, ◌∙◌, ℕ, zero, suc, ◌+◌, ◌-◌, ◌*◌, ◌<◌, List, [], ◌∷◌, ◌++◌, Result, Ok, Err, refl, ap, sym, append_assoc, arith}
+use Rattle.std.proofs.Common.{◌≡◌, ℕ, suc, ◌+◌, ◌-◌, ◌*◌, ◌<◌, List, [], ◌∷◌, ◌++◌, Result, Ok, Err, refl, ap, append_assoc, arith}
 use Rattle.tpcc_rules.specs.declared.programs.Line.{Line}
 use Rattle.records.specs.Records.{Record}
 use Rattle.workload_text.specs.declared.faults.Flaw.{Flaw}

@@ -210,7 +210,7 @@ table_row_back : (table : Table) (work : Workload) (r : Keyed) → IsRowOf table
     → row_from table work (table_record table r) ≡ Ok (Loads r)
 table_row_back table work r own new room =
     let long : length (table_record table r) ≡ 1 + width_of table + length (columns_of table) =
-        record_length table r ∙ ap (λ n. 1 + width_of table + n) (as_many (columns_of table) r.row own.1) in
+    record_length table r ∙ ap (λ n. 1 + width_of table + n) (as_many (columns_of table) r.row own.1) in
     let next : 2 + width_of table ≡ 1 + width_of table + 1 = omega arith in
     if_false (not (length (table_record table r) == 1 + width_of table + length (columns_of table))) _ _ (not_from_true _ (eq-eqb _ _ long))
     ∙ then_ok (key_from table (table_record table r)) _ r.key (key_back table r own.0)

@@ -202,8 +202,8 @@ txn_allowed work steps s fit h =
     let at_most : length (map (λ (p : Placed). p.step) steps) ≤ 16 = omega (arith, long, few) in
     run_allowed (is_valid_row work.load.fields) (λ (i : Item). false) work (programs.Ycsb (map (λ (p : Placed). p.step) steps)) s
     (and_from _ _ (and_from _ _ (and_from _ _ (le-leb _ _ at_least) (le-leb _ _ at_most))
-        (steps_valid work.load steps (no_flaw UnknownKey (first_unknown work.load.rows steps) b.0 b.1) fit))
-        (keys_apart [] steps (no_flaw Repeated (first_repeated [] steps) c.0 c.1)).0) d.1
+    (steps_valid work.load steps (no_flaw UnknownKey (first_unknown work.load.rows steps) b.0 b.1) fit))
+    (keys_apart [] steps (no_flaw Repeated (first_repeated [] steps) c.0 c.1)).0) d.1
 
 texts_allowed : (head : YcsbHead) (work : Workload) (r : Record) (s : Said) → work.load.fields ≡ head.fields → is_plain_record r ≡ true → row_from head work r ≡ Ok s → AllowedYcsb work s
 texts_allowed head work r s same plain h =

@@ -279,7 +279,7 @@ module _ (work : Workload) (s : Said) where
       let few : length o.lines ≤ 15 = ltb-false _ _ f.0 in
       run_allowed is_tpcc_row is_valid_item work (programs.NewOrder o) s
       (and_from _ _ (and_from _ _ (and_from _ _ (and_from _ _ (le-leb _ _ some) (le-leb _ _ few)) (stocks_there work 5 o.lines e.0 lines.1 e.1))
-          (place_there work o.w o.d c.0 c.1)) (known_there work 4 (customer_key o.w o.d o.c) d.0 d.1)) f.1
+      (place_there work o.w o.d c.0 c.1)) (known_there work 4 (customer_key o.w o.d o.c) d.0 d.1)) f.1
 
   word_allowed : (r : Record) (table : Option Table) → is_plain_record r ≡ true → said_of_tpcc work r table ≡ Ok s → AllowedTpcc work s
   word_allowed r (Some table) plain h = table_allowed table r plain h

@@ -1,7 +1,7 @@
 -- The fields of a record, and what stands in them.
-use Rattle.std.specs.Prelude.{ℕ, ◌+◌, ◌-◌, ◌==◌, ℤ, pos, negsuc, neg_ℤ, int_le, List, [], ◌∷◌, length, min, Bool, false, not, ◌&&◌, ◌||◌, if◌then◌else◌, nat_le, slice_index_or, Result, Ok, Err}
+use Rattle.std.specs.Prelude.{ℕ, ◌+◌, ◌-◌, ℤ, List, [], ◌∷◌, length, min, if◌then◌else◌, nat_le, slice_index_or, Result, Ok, Err}
 use Rattle.deneva_base.specs.declared.rows.Cell.{Cell}
-use Rattle.deneva_base.specs.declared.rows.Cell.TheVariants.{Num, Text}
+use Rattle.deneva_base.specs.declared.rows.Cell.TheVariants.{Text}
 use Rattle.records.specs.Records.{Record}
 use Rattle.workload_text.specs.Gives.{◌>>=◌}
 use Rattle.workload_text.specs.Numbers.{number_in, integer_in}

@@ -1,10 +1,8 @@
 -- The records of a file of YCSB.
-use Rattle.std.specs.Prelude.{ℕ, zero, suc, ◌+◌, ◌-◌, ◌==◌, List, [], ◌∷◌, map, length, drop, take, not, if◌then◌else◌, nat_le, nat_lt, codes, Option, Some, None, Result, Ok, Err}
+use Rattle.std.specs.Prelude.{ℕ, zero, suc, ◌+◌, ◌-◌, ◌==◌, List, [], ◌∷◌, map, length, drop, take, not, if◌then◌else◌, nat_lt, codes, Option, Some, None, Result, Ok, Err}
 use Rattle.std.specs.List.{list_any}
 use Rattle.std.specs.Str.{bytes_eq}
 use Rattle.deneva_base.specs.Rows.{has_key}
-use Rattle.deneva_base.specs.declared.keys.Key.{Key}
-use Rattle.deneva_base.specs.declared.rows.Cell.{Cell}
 use Rattle.deneva_base.specs.declared.rows.Keyed.{Keyed}
 use Rattle.records.specs.Records.{Record}
 use Rattle.txn_program.specs.Transactions.{ycsb_key}

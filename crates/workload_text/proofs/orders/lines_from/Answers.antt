@@ -1,4 +1,4 @@
-use Rattle.std.proofs.Common.{◌≡◌, ◌∙◌, map, sym, rules}
+use Rattle.std.proofs.Common.{◌∙◌, map, sym, rules}
 use Rattle.workload_text.proofs.LineByLine.{line_failed, line_read}
 use Rattle.workload_text.proofs.orders.lines_from.Goals as goal
 
