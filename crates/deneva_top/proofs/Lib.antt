@@ -1,4 +1,5 @@
+mod Asked
 pub mod Ids
 pub mod ListedNumbers
 pub mod OptionPairs
-mod Asked
+pub mod Turns
