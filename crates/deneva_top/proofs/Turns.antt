@@ -15,5 +15,5 @@ pub at_turn : (work : Workload) (rows : List Keyed) (id : TxnId) (program : Prog
     → (reads ≡ reads_of work rows id) × (e ≡ effect_on work rows id)
 at_turn work rows id program list reads e p l r h =
     let known : list ≡ accesses work.load (program_of work id) = l ∙ ap (λ (q : Program). accesses work.load q) p in
-    let read : reads ≡ reads_of work rows id = r ∙ ap (λ (as : List Access). reads_from rows as) known in
+    let read : reads ≡ reads_of work rows id = r ∙ ap (λ (all : List Access). reads_from rows all) known in
     (read, h ∙ (λ i. effect work.load id (p i) (read i)))
