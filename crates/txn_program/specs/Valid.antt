@@ -25,10 +25,6 @@ use Rattle.txn_program.specs.declared.programs.WorkKind.{WorkKind}
 use Rattle.txn_program.specs.declared.programs.WorkKind.TheVariants as kinds
 use Rattle.txn_program.specs.Transactions.{ycsb_key}
 
--- a byte that stands for itself in a field: no comma, double quote, line feed or carriage return
-abbrev pub is_plain : ℕ → Bool
-is_plain b = not ((b == 44) || (b == 34) || (b == 10) || (b == 13))
-
 abbrev pub is_between : ℕ → ℕ → ℕ → Bool
 is_between low high n = nat_le low n && nat_le n high
 
@@ -43,9 +39,9 @@ are_valid_rows is_valid rows = nat_le (length rows) 1000000 && list_all is_valid
 
 -- loads of YCSB
 
--- a text of a YCSB row: at most 100 bytes, each plain, since files have no quoted fields
+-- a text of a YCSB row: at most 100 bytes
 abbrev pub is_text : List ℕ → Bool
-is_text text = nat_le (length text) 100 && list_all is_plain text
+is_text text = nat_le (length text) 100
 
 abbrev pub is_text_cell : Cell → Bool
 is_text_cell (Num n) = false
@@ -89,13 +85,8 @@ is_tpcc_key key =
     else if key.table == 4 then is_item key.b && (key.c == 0)
     else false)
 
--- a cell whose text, if it is one, has plain bytes alone
-abbrev pub is_plain_cell : Cell → Bool
-is_plain_cell (Num n) = true
-is_plain_cell (Text text) = list_all is_plain text
-
 abbrev pub is_tpcc_row : Keyed → Bool
-is_tpcc_row r = is_tpcc_key r.key && is_loaded_row r.key r.row && list_all is_plain_cell r.row
+is_tpcc_row r = is_tpcc_key r.key && is_loaded_row r.key r.row
 
 -- prices are in cents
 abbrev pub is_valid_item : Item → Bool

@@ -4,7 +4,6 @@ ghost use Rattle.std.specs.List.{list_all, list_any};
 ghost use Rattle.deneva_base.specs.declared.rows.Keyed as keyed;
 ghost use Rattle.txn_program.specs.Valid as valid;
 
-use crate::validity::all_plain;
 use deneva_base::{Cell, Key, Keyed};
 use tpcc_rules::{Item, Line, is_loaded_row};
 
@@ -52,26 +51,11 @@ fn is_tpcc_key(key: Key) -> bool
         }
 }
 
-fn is_plain_cell(cell: &Cell) -> bool
-    ensures { result ≡ valid.is_plain_cell cell.now }
-{
-    match cell {
-        Cell::Num(_) => true,
-        Cell::Text(text) => all_plain(text.as_slice()),
-    }
-}
-
-fn are_plain_cells(row: &[Cell]) -> bool
-    ensures { result ≡ list_all valid.is_plain_cell row.now }
-{
-    row.iter().all(|cell| is_plain_cell(cell))
-}
-
 fn fits_row(keyed: &Keyed) -> bool
     ensures { result ≡ valid.is_tpcc_row keyed.now }
 {
     let row = keyed.row.as_slice();
-    is_tpcc_key(keyed.key) && is_loaded_row(keyed.key, row) && are_plain_cells(row)
+    is_tpcc_key(keyed.key) && is_loaded_row(keyed.key, row)
 }
 
 /// Whether each row is one that a load of TPC-C may have.

@@ -5,7 +5,7 @@ ghost use Rattle.deneva_base.specs.Keys.{key_eq};
 ghost use Rattle.deneva_base.specs.Rising.{keys_rise, rise_after};
 ghost use Rattle.deneva_base.specs.Rows.{has_key};
 ghost use Rattle.txn_program.specs.Transactions.{ycsb_key};
-ghost use Rattle.txn_program.specs.Valid.{are_distinct, is_plain, is_row, is_text, is_text_cell, is_tpcc_load, is_valid, is_valid_act, is_valid_load, is_valid_program, is_valid_row, is_valid_step, is_ycsb_key, is_ycsb_load};
+ghost use Rattle.txn_program.specs.Valid.{are_distinct, is_row, is_text_cell, is_tpcc_load, is_valid, is_valid_act, is_valid_load, is_valid_program, is_valid_row, is_valid_step, is_ycsb_key, is_ycsb_load};
 ghost use Rattle.txn_program.specs.Valid as valid;
 ghost use Rattle.tpcc_rules.specs.NewOrders.{is_loaded};
 
@@ -15,26 +15,12 @@ use crate::tpcc_validity::{fit_items, fit_rows, fits_numbers};
 use deneva_base::{Cell, Key, Keyed};
 use tpcc_rules::{Line, NewOrder, Payment, customer_key, district_key, stock_key, warehouse_key};
 
-/// Whether each byte of a text stands for itself in a field of a file.
-pub(crate) fn all_plain(text: &[u8]) -> bool
-    ensures { result ≡ list_all is_plain text.now }
-{
-    text.iter().all(|b| !(*b == b',' || *b == b'"' || *b == b'\n' || *b == b'\r'))
-}
-
-/// Whether a file can hold this text in a field.
-fn fits_text(text: &[u8]) -> bool
-    ensures { result ≡ is_text text.now }
-{
-    text.len() <= 100 && all_plain(text)
-}
-
 fn fits_cell(cell: &Cell) -> bool
     ensures { result ≡ is_text_cell cell.now }
 {
     match cell {
         Cell::Num(_) => false,
-        Cell::Text(text) => fits_text(text.as_slice()),
+        Cell::Text(text) => text.len() <= 100,
     }
 }
 
@@ -76,7 +62,7 @@ fn fits_act(fields: u8, act: &YcsbAct) -> bool
 {
     match act {
         YcsbAct::Read => true,
-        YcsbAct::Update(put) => put.field < fields && fits_text(put.text.as_slice()),
+        YcsbAct::Update(put) => put.field < fields && put.text.len() <= 100,
         YcsbAct::Put(row) => fits_row(fields, row.as_slice()),
     }
 }
@@ -305,9 +291,9 @@ impl<'a> LoadView<'a> {
 /// Whether some file gives this workload: at most 1,000,000 rows, each with a key of its own, and at most 10,000
 /// transactions.
 ///
-/// A load of YCSB has 1 to 10 fields and rows of so many plain texts; each transaction has 1 to 16 steps, each on a loaded
+/// A load of YCSB has 1 to 10 fields and rows of so many texts; each transaction has 1 to 16 steps, each on a loaded
 /// key that no other step of its transaction has. A load of TPC-C has rows of the tables 1 to 4 and at most 100,000 items,
-/// each with a number of its own, all with numbers in their ranges and plain texts; a payment and an order name a
+/// each with a number of its own, all with numbers in their ranges; a payment and an order name a
 /// district with its warehouse and a customer that are loaded, and an order has 1 to 15 lines. A line may name an item
 /// that is not loaded; if it is loaded, so is its stock at the supplier.
 ///
