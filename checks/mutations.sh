@@ -15,10 +15,11 @@ draw = random.Random(20260102)
 files = [
     b"deneva,1,ycsb,2\nrow,1,a,b\nrow,9,c,d\ntxn,r,1,u,9,1,x\ntxn,u,1,0,y\nend\n",
     b"deneva,2,ycsb,1\nrow,3,abc\nrow,4,\ntxn,p,3,z,r,4\ntxn,u,4,0,w\nend\n",
+    b'deneva,1,ycsb,2\nrow,1,"a,b","c""d"\nrow,"2","line\nfeed",""\ntxn,u,1,0,"x,""y""",r,2\n"end"\n',
     b"deneva,1,tpcc\nwarehouse,1,W,9,0\ndistrict,1,1,D,9,0,1\ncustomer,1,1,1,F,L,BC,9,-9,0,0,d\nitem,1,9,ORIGINAL\n"
     b"stock,1,1,9,0,0,0,d\npayment,1,1,1,1,name,L,9\npayment,1,1,1,1,id,1,9\nneworder,1,1,1,1,1,9,9,1,1\nend\n",
 ]
-pieces = [b",", b"\n", b"\r", b'"', b"0", b"1", b"9", b"r", b"u", b"p", b"end", b"txn", b"row", b"item", b"deneva",
+pieces = [b",", b"\n", b"\r", b'"', b'""', b',"', b'",', b"0", b"1", b"9", b"r", b"u", b"p", b"end", b"txn", b"row", b"item", b"deneva",
           b"\xef\xbb\xbf", b"-", b"+", b"4294967296", b"\x00", b"\xff", b"x" * 101]
 fault = re.compile(rb"fault,input,\d+,\d+,(magic|kind|arity|notanumber|outofrange|unknownkey|repeated"
                    rb"|toomany,\d+|noend|trailing|toolong)\n")
