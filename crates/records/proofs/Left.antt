@@ -1,11 +1,13 @@
 -- What a read takes of the records that a reader has left.
-use Rattle.std.proofs.Common.{◌≡◌, ◌<◌, ◌+◌, ℕ, zero, suc, List, [], ◌∷◌, length, Bool, true, Option, Some, None, IsSome, refl, sym, ap, ◌∙◌, inl, inr, arith, add-one}
+use Rattle.std.proofs.Common.{◌≡◌, ◌<◌, ◌≤◌, ◌+◌, ℕ, zero, suc, List, [], ◌∷◌, length, Bool, true, false, Option, Some, None, IsSome, refl, sym, ap, ◌∙◌, inl, inr, arith, add-one}
 use Rattle.std.specs.Prelude.{if◌then◌else◌}
 use Rattle.csv.specs.Machine.{Read, next_record}
-use Rattle.csv.specs.Reading.{NextIs, has_failed, ReadRecord, ReadsNext, pending_of, records_from, records_next, default_config}
+use Rattle.csv.specs.Reading.{NextIs, ReadRecord, ReadsNext, default_config, has_failed, is_bom, pending_of, records_from, records_next, strip_bom}
 use Rattle.csv.specs.declared.parser.State.{State}
+use Rattle.csv.specs.declared.parser.State.TheVariants as st
+use Rattle.records.specs.Records.{records_of}
 use Rattle.records.specs.Reading.{TextReader, Stands, bytes_left, records_from_bytes, records_left}
-use Rattle.records.proofs.Takes.{Between, no-more, record-takes}
+use Rattle.records.proofs.Takes.{Between, has-field, no-more, record-takes}
 
 -- a record leaves fewer bytes than it found, from a state between two records
 fewer-left : (s : State) (xs : List ℕ) (p : Read) → Between s → next_record default_config s [] [] xs ≡ Some p → length p.2 < length xs
@@ -79,3 +81,47 @@ pub read_left : (a b : TextReader) (f : List (List ℕ)) (found : Bool) → Stan
     → records_left a ≡ (if found then f ∷ records_left b else [])
 read_left a b f found stands r =
     rw r.1 (known-left a.state b.state (bytes_left a) (pending_of (Some b.rdr.now) b) f found stands.4 (rw stands.2 at r.0))
+
+-- what a read found has a field
+
+next-field : (found : Bool) (o : Option Read) (a b : State) (y z : List ℕ) (f : List (List ℕ)) → next_record default_config a [] [] y ≡ o → NextIs o found f b z
+    → found ≡ true → 1 ≤ length f
+next-field found None a b y z f e n is = cc (n, is)
+next-field found (Some p) a b y z f e n is = rw n.1 (has-field y a [] [] p e)
+
+known-field : (found : Bool) (a b : State) (bytes k : Option (List ℕ)) (f : List (List ℕ)) → IsSome bytes → ReadsNext default_config a bytes k found f b → found ≡ true → 1 ≤ length f
+known-field found a b None k f some r is = cc (sym some)
+known-field found a b (Some y) None f some r is = absurd r
+known-field found a b (Some y) (Some z) f some r is = next-field found (next_record default_config a [] [] y) a b y z f refl r is
+
+pub read_field : (a b : TextReader) (f : List (List ℕ)) (found : Bool) → Stands a → ReadRecord (λ text. Some text.now) a b found f → found ≡ true → 1 ≤ length f
+read_field a b f found stands r is =
+    known-field found a.state b.state (bytes_left a) (pending_of (Some b.rdr.now) b) f stands.4 (rw stands.2 at r.0) is
+
+-- a text has no more records than bytes
+
+counted-next : (n : ℕ) (s : State) (xs : List ℕ) (o : Option Read) → next_record default_config s [] [] xs ≡ o
+    → ((t : State) (ys : List ℕ) → Between t → length (records_from default_config n t ys) ≤ length ys)
+    → Between s → length (records_next (records_from default_config n) o) ≤ length xs
+counted-next n s xs None e more b = omega arith
+counted-next n s xs (Some p) e more b =
+    omega (arith, more p.1 p.2 (record-takes xs s [] [] p e).1, fewer-left s xs p b e)
+
+counted : (n : ℕ) (s : State) (xs : List ℕ) → Between s → length (records_from default_config n s xs) ≤ length xs
+unfolding records_from
+counted zero s xs b = omega arith
+counted (suc n) s xs b = counted-next n s xs (next_record default_config s [] [] xs) refl (counted n) b
+
+unmarked : (t : Bool) (a b c : ℕ) (rest : List ℕ) → length (if t then rest else a ∷ b ∷ c ∷ rest) ≤ length (a ∷ b ∷ c ∷ rest)
+unmarked true a b c rest = omega arith
+unmarked false a b c rest = omega arith
+
+without-mark : (xs : List ℕ) → length (strip_bom xs) ≤ length xs
+unfolding strip_bom
+without-mark [] = omega arith
+without-mark (a ∷ []) = omega arith
+without-mark (a ∷ b ∷ []) = omega arith
+without-mark (a ∷ b ∷ c ∷ rest) = unmarked (is_bom a b c) a b c rest
+
+pub records_counted : (xs : List ℕ) → length (records_of xs) ≤ length xs
+records_counted xs = omega (arith, counted (length (strip_bom xs) + 1) st.StartRecord (strip_bom xs) refl, without-mark xs)

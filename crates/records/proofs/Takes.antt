@@ -1,10 +1,12 @@
 -- How much of a text a record takes.
-use Rattle.std.proofs.Common.{◌≡◌, ◌⊎◌, ◌<◌, ℕ, List, [], ◌∷◌, length, Bool, true, false, ◌==◌, ◌||◌, Some, refl, sym, ap, subst, inl, inr, arith}
+use Rattle.std.proofs.Common.{◌≤◌, ◌≡◌, ◌⊎◌, ◌<◌, ℕ, List, [], ◌∷◌, ◌++◌, length, Bool, true, false, ◌==◌, ◌||◌, Some, refl, sym, ap, subst, inl, inr, arith}
 use Rattle.std.specs.Prelude.{if◌then◌else◌}
 use Rattle.std.proofs.lemmas.Bool.{cases_Bool}
 use Rattle.std.proofs.lemmas.Option.{same_Some}
 use Rattle.csv.specs.Machine.{Read, next_record, step, is_end, ends_at_end, fields_after, field_after, in_field, start_field, start_record}
 use Rattle.csv.specs.Reading.{default_config}
+use Rattle.std.proofs.lemmas.List.{length-append}
+use Rattle.csv.specs.declared.parser.Action.{Action}
 use Rattle.csv.specs.declared.parser.Action.TheVariants as act
 use Rattle.csv.specs.declared.parser.State.{State}
 use Rattle.csv.specs.declared.parser.State.TheVariants as st
@@ -79,3 +81,25 @@ record-takes (c ∷ rest) s f p r e = elim (cases_Bool (is_end (step default_con
 pub no-more : (s : State) (p : Read) → Between s → next_record default_config s [] [] [] ≡ Some p → ⊥
 unfolding next_record
 no-more s p b e = cc (rw b at e)
+
+-- a record has a field
+
+some-field : (fields : List (List ℕ)) (field : List ℕ) → 1 ≤ length (fields ++ field ∷ [])
+some-field fields field = omega (arith, length-append fields (field ∷ []))
+
+ends-field : (a : Action) (fields : List (List ℕ)) (field : List ℕ) → is_end a ≡ true → 1 ≤ length (fields_after a fields field)
+ends-field act.EndRecord fields field e = some-field fields field
+ends-field act.Skip fields field e = cc (sym e)
+ends-field act.Copy fields field e = cc (sym e)
+ends-field act.EndField fields field e = cc (sym e)
+
+pub has-field : (xs : List ℕ) (s : State) (f : List (List ℕ)) (p : List ℕ) (r : Read) → next_record default_config s f p xs ≡ Some r → 1 ≤ length r.0
+unfolding next_record
+has-field [] s f p r e = elim (cases_Bool (ends_at_end s)) [
+  | inl h ↦ subst (λ (w : Read). 1 ≤ length w.0) (same_Some _ _ (rw h at e)) (some-field f p)
+  | inr h ↦ cc (rw h at e)
+]
+has-field (c ∷ rest) s f p r e = elim (cases_Bool (is_end (step default_config s c).1)) [
+  | inl h ↦ subst (λ (w : Read). 1 ≤ length w.0) (same_Some _ _ (rw h at e)) (ends-field (step default_config s c).1 f p h)
+  | inr h ↦ has-field rest (step default_config s c).0 (fields_after (step default_config s c).1 f p) (field_after (step default_config s c).1 c p) r (rw h at e)
+]
