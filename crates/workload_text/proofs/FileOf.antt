@@ -60,7 +60,8 @@ unmarked kinds.Tpcc format fields more = refl
 
 -- the records of the file are those of the workload
 file_records_back : (work : Workload) → records_of (file_of work) ≡ records_in work
-file_records_back work = reads-back (records_in work) (have_fields work) (unmarked work.load.kind (format_for work.programs) work.load.fields _)
+file_records_back work = reads-back (records_in work) (have_fields work) (unmarked work.load.kind (format_for work.programs) work.load.fields
+    (map (loaded_record work.load.kind) work.load.rows ++ (map item_record work.load.items ++ (map program_record work.programs ++ end_records))))
 
 of_kind : (kind : WorkKind) (work : Workload) → kind ≡ work.load.kind → is_load_of kind work.load ≡ true → nat_le (length work.programs) 10000 ≡ true
     → list_all (is_valid_program work.load) work.programs ≡ true → AreNumbers work → workload_from (records_with kind work) ≡ Ok (in_order work)

@@ -1,5 +1,5 @@
 -- Reading on, one record after another.
-use Rattle.std.proofs.Common.{◌≡◌, ◌∙◌, ℕ, ◌+◌, List, [], ◌∷◌, Result, Ok, Err, ap, refl, sym}
+use Rattle.std.proofs.Common.{◌≡◌, ◌∙◌, ℕ, suc, ◌+◌, List, [], ◌∷◌, take, Result, Ok, Err, ap, refl, sym, subst, arith}
 use Rattle.txn_program.specs.declared.programs.Workload.{Workload}
 use Rattle.workload_text.specs.declared.faults.Flaw.{Flaw}
 use Rattle.workload_text.specs.declared.faults.InputFault.{InputFault}
@@ -10,6 +10,7 @@ use Rattle.workload_text.specs.declared.said.Said.TheVariants.{Loads, Sells, Run
 use Rattle.records.specs.Records.{Record}
 use Rattle.workload_text.specs.Grammar.{Prefix, said_by, read_after, read_on, at_end, with_row, with_item, with_program, head_from, empty, prefix_on, prefix_from, read_from_head, prefix_from_head, workload_from}
 use Rattle.workload_text.specs.Reader.{Advances}
+use Rattle.workload_text.proofs.Bound.{same_ok}
 
 -- more may follow
 pub more_after : {A : Type 0} (n : ℕ) (old new : Workload) (ended : Result A InputFault) (rest : Workload → Result A InputFault) (s : Result Said Flaw)
@@ -56,3 +57,53 @@ whole_from_head (Err f) rs = refl
 pub whole_from : (rs : List Record) → workload_from rs ≡ none_behind (prefix_from rs)
 whole_from [] = refl
 whole_from (r ∷ rs) = whole_from_head (head_from r) rs
+
+-- the records up to and with the end are a file
+
+-- a file of one record more, from record n on
+record Taken (head : Head) (n : ℕ) (rs : List Record) (work : Workload) (p : Prefix) : Type 0 where
+  count : ℕ
+  place : p.last ≡ n + count
+  whole : read_on head n (take (suc count) rs) work ≡ Ok p.work
+
+taken_more : (head : Head) (n : ℕ) (r : Record) (rs : List Record) (work next : Workload) (s : Result Said Flaw) (p : Prefix) → said_by head work r ≡ s
+    → ((ended : Result Workload InputFault) (rest : Workload → Result Workload InputFault) → rest next ≡ read_after n work ended rest s)
+    → Taken head (n + 1) rs next p → Taken head n (r ∷ rs) work p
+taken_more head n r rs work next s p e more t = record {
+  count = suc t.count;
+  place = omega (arith, t.place);
+  whole = ap (read_after n work (at_end work (n + 1) (take (suc t.count) rs)) (read_on head (n + 1) (take (suc t.count) rs))) e
+      ∙ sym (more (at_end work (n + 1) (take (suc t.count) rs)) (read_on head (n + 1) (take (suc t.count) rs))) ∙ t.whole;
+}
+
+taken_after : (head : Head) (n : ℕ) (r : Record) (rs : List Record) (work : Workload) (s : Result Said Flaw) (p : Prefix) → said_by head work r ≡ s
+    → ((w : Workload) → prefix_on head (n + 1) rs w ≡ Ok p → Taken head (n + 1) rs w p)
+    → read_after n work (Ok (record { work = work; last = n; more = rs })) (prefix_on head (n + 1) rs) s ≡ Ok p → Taken head n (r ∷ rs) work p
+taken_after head n r rs work (Err f) p e later h = absurd (cc)
+taken_after head n r rs work (Ok (Loads row)) p e later h =
+    taken_more head n r rs work (with_row work row) (Ok (Loads row)) p e (λ ended rest. refl) (later (with_row work row) h)
+taken_after head n r rs work (Ok (Sells item)) p e later h =
+    taken_more head n r rs work (with_item work item) (Ok (Sells item)) p e (λ ended rest. refl) (later (with_item work item) h)
+taken_after head n r rs work (Ok (Runs program)) p e later h =
+    taken_more head n r rs work (with_program work program) (Ok (Runs program)) p e (λ ended rest. refl) (later (with_program work program) h)
+taken_after head n r rs work (Ok Ends) p e later h =
+    subst (Taken head n (r ∷ rs) work) (same_ok {E = InputFault} _ _ h) (record {
+      count = 0;
+      place = omega arith;
+      whole = ap (read_after n work (at_end work (n + 1) []) (read_on head (n + 1) [])) e;
+    })
+
+taken_on : (head : Head) (n : ℕ) (rs : List Record) (work : Workload) (p : Prefix) → prefix_on head n rs work ≡ Ok p → Taken head n rs work p
+taken_on head n [] work p h = absurd (cc)
+taken_on head n (r ∷ rs) work p h = taken_after head n r rs work (said_by head work r) p refl (λ w e. taken_on head (n + 1) rs w p e) h
+
+taken_from_head : (r : Record) (rs : List Record) (o : Result Head Flaw) (p : Prefix) → head_from r ≡ o → prefix_from_head o rs ≡ Ok p → workload_from (take p.last (r ∷ rs)) ≡ Ok p.work
+taken_from_head r rs (Err f) p e h = absurd (cc)
+taken_from_head r rs (Ok head) p e h =
+    let t = taken_on head 2 rs (empty head) p h in
+    let last : p.last ≡ suc (suc t.count) = omega (arith, t.place) in
+    ap (λ n. workload_from (take n (r ∷ rs))) last ∙ ap (λ (x : Result Head Flaw). read_from_head x (take (suc t.count) rs)) e ∙ t.whole
+
+pub taken_from : (rs : List Record) (p : Prefix) → prefix_from rs ≡ Ok p → workload_from (take p.last rs) ≡ Ok p.work
+taken_from [] p h = absurd (cc)
+taken_from (r ∷ rs) p h = taken_from_head r rs (head_from r) p refl h

@@ -405,13 +405,16 @@ from_records [] out h = absurd (cc)
 from_records (r ∷ rs) out h =
     from_head (head_from r) rs out (λ head e. head_by r (format_of (field_at 2 r)) head (held (bytes_eq (field_at 1 r) (codes "deneva")) _ _ head e).1) h
 
-from_bytes : (bytes : List ℕ) (work : Workload) → workload_of bytes ≡ Ok work → (head : Head) × Kept head work
-from_bytes bytes work h = from_records (records_of bytes) work h
+-- the workload of the records of a file is valid, and its rows rise
 
--- the workload of a file is valid
+pub records_valid : (rs : List Record) (work : Workload) → workload_from rs ≡ Ok work → IsValid work
+records_valid rs work h = let read = from_records rs work h in kept_valid read.0 work read.1
+
+pub records_rising : (rs : List Record) (work : Workload) → workload_from rs ≡ Ok work → IsRising work.load.rows
+records_rising rs work h = (from_records rs work h).1.rising
+
 pub reads_valid : (bytes : List ℕ) (work : Workload) → workload_of bytes ≡ Ok work → IsValid work
-reads_valid bytes work h = let read = from_bytes bytes work h in kept_valid read.0 work read.1
+reads_valid bytes work h = records_valid (records_of bytes) work h
 
--- its rows rise
 pub reads_rising : (bytes : List ℕ) (work : Workload) → workload_of bytes ≡ Ok work → IsRising work.load.rows
-reads_rising bytes work h = (from_bytes bytes work h).1.rising
+reads_rising bytes work h = records_rising (records_of bytes) work h

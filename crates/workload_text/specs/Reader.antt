@@ -9,7 +9,7 @@ use Rattle.workload_text.specs.declared.faults.ReadError.TheVariants.{NoMemory, 
 use Rattle.workload_text.specs.declared.faults.RecordError.{RecordError}
 use Rattle.workload_text.specs.declared.faults.RecordError.TheVariants as errors
 use Rattle.workload_text.specs.declared.heads.Head.{Head}
-use Rattle.workload_text.specs.declared.lines.Ended.{Ended}
+use Rattle.workload_text.specs.declared.lines.FileEnd.{FileEnd}
 use Rattle.workload_text.specs.declared.reading.Reading.{Reading}
 use Rattle.workload_text.specs.declared.reading.Progress.{Progress}
 use Rattle.workload_text.specs.declared.reading.Progress.TheVariants.{More, Ended}
@@ -69,7 +69,7 @@ Reads (Err (Fault f)) read = read ≡ Err f
 Reads (Err ReadFault) read = ⊥
 
 -- the end that the definition finds, with these records behind it, or its fault, unless memory ran out; no source is read
-abbrev pub ReadsToEnd : Result Ended ReadError → List Record → Result Prefix InputFault → Type 0
+abbrev pub ReadsToEnd : Result FileEnd ReadError → List Record → Result Prefix InputFault → Type 0
 ReadsToEnd (Ok ended) more read = read ≡ Ok (record { work = work_of ended.reading; last = ended.record_no; more = more })
 ReadsToEnd (Err NoMemory) more read = ⊤
 ReadsToEnd (Err (Fault f)) more read = read ≡ Err f

@@ -4,9 +4,9 @@ ghost use Rattle.csv.specs.Records.{fields_of};
 ghost use Rattle.txn_program.specs.Valid.{IsValid};
 ghost use Rattle.workload_text.specs.Files.{IsRising};
 ghost use Rattle.workload_text.specs.Grammar as grammar;
-ghost use Rattle.workload_text.specs.Reader.{Reads, ReadsToEnd, HeadGives, error_at, work_of};
+ghost use Rattle.workload_text.specs.Reader.{Reads, ReadsPrefix, ReadsToEnd, HeadGives, error_at, work_of};
 
-use crate::faults::{FaultKind, ReadError, RecordError, fault};
+use crate::faults::{FaultKind, ReadError, RecordError, fault, fault_number};
 use crate::heads::{Head, head_of};
 use crate::reader::read_record;
 use crate::reading::{Progress, Reading};
@@ -17,7 +17,7 @@ use txn_program::Workload;
 
 /// What was read where the file's `end` came, and the number of that record.
 #[derive(Drop)]
-pub struct Ended {
+pub struct FileEnd {
     pub reading: Reading,
     pub record_no: usize,
 }
@@ -49,7 +49,7 @@ fn read_to_end(
     head: Head,
     records: &mut RecordReader,
     current: &mut ByteRecord,
-) -> Result<Ended, ReadError>
+) -> Result<FileEnd, ReadError>
     requires bound { length records.old < 2 ^ 63 }
     ensures answer { ReadsToEnd result records.new (grammar.prefix_on head 2 records.old (grammar.empty head)) }
     ensures place { IfOk result (λ ended. ended.record_no + length records.new ≡ length records.old + 1) }
@@ -62,7 +62,7 @@ fn read_to_end(
         }
         match read_record(alloc, &mut reading, current) {
             Ok(Progress::More) => record_no += 1,
-            Ok(Progress::Ended) => return Ok(Ended { reading, record_no }),
+            Ok(Progress::Ended) => return Ok(FileEnd { reading, record_no }),
             Err(error) => return Err(at_record(record_no, error)),
         }
     }
@@ -73,7 +73,7 @@ fn read_file(
     alloc: Global,
     records: &mut RecordReader,
     current: &mut ByteRecord,
-) -> Result<Ended, ReadError>
+) -> Result<FileEnd, ReadError>
     requires bound { length records.old < 2 ^ 63 }
     ensures answer { ReadsToEnd result records.new (grammar.prefix_from records.old) }
     ensures place { IfOk result (λ ended. ended.record_no + length records.new ≡ length records.old) }
@@ -107,4 +107,19 @@ pub fn parse_workload(alloc: Global, bytes: &ByteList) -> Result<Workload, ReadE
     ensures order { IfOk result (λ work. IsRising work.load.rows) }
 {
     read_text(alloc, bytes.as_slice())
+}
+
+/// The workload that the first records of some bytes give, up to and with the first `end`, and how many records these are,
+/// or the first fault. The count stops at 4,294,967,295. It never answers `ReadFault`, and the fault is never `Trailing` or
+/// `TooLong`.
+pub fn parse_prefix(alloc: Global, bytes: &ByteList) -> Result<(Workload, u32), ReadError>
+    ensures answer { ReadsPrefix result (grammar.prefix_of bytes.now) }
+    ensures valid { IfOk result (λ prefix. IsValid prefix.0) }
+    ensures order { IfOk result (λ prefix. IsRising prefix.0.load.rows) }
+{
+    let mut records = RecordReader::new(alloc, bytes.as_slice());
+    let mut current = ByteRecord::new(alloc);
+    let ended = read_file(alloc, &mut records, &mut current)?;
+    let work = ended.reading.finish(alloc)?;
+    Ok((work, fault_number(ended.record_no)))
 }
