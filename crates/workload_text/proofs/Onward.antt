@@ -4,12 +4,17 @@ use Rattle.txn_program.specs.declared.programs.Workload.{Workload}
 use Rattle.workload_text.specs.declared.faults.Flaw.{Flaw}
 use Rattle.workload_text.specs.declared.faults.InputFault.{InputFault}
 use Rattle.workload_text.specs.declared.heads.Head.{Head}
+use Rattle.workload_text.specs.declared.faults.ReadError.{ReadError}
+use Rattle.workload_text.specs.declared.faults.RecordError.{RecordError}
+use Rattle.workload_text.specs.declared.faults.RecordError.TheVariants as errors
+use Rattle.workload_text.specs.declared.reading.Progress.{Progress}
 use Rattle.workload_text.specs.declared.reading.Progress.TheVariants.{More, Ended}
 use Rattle.workload_text.specs.declared.said.Said.{Said}
 use Rattle.workload_text.specs.declared.said.Said.TheVariants.{Loads, Sells, Runs, Ends}
 use Rattle.records.specs.Records.{Record}
 use Rattle.workload_text.specs.Grammar.{Prefix, said_by, read_after, read_on, at_end, with_row, with_item, with_program, head_from, empty, prefix_on, prefix_from, read_from_head, prefix_from_head, workload_from}
-use Rattle.workload_text.specs.Reader.{Advances}
+use Rattle.workload_text.specs.Gives.{Fails}
+use Rattle.workload_text.specs.Reader.{Advances, ReadsToEnd, error_at}
 use Rattle.workload_text.proofs.Bound.{same_ok}
 
 -- more may follow
@@ -29,6 +34,34 @@ ended_after n old new ended rest (Ok (Sells i)) e = absurd e
 ended_after n old new ended rest (Ok (Runs p)) e = absurd e
 ended_after n old new ended rest (Ok Ends) e = ap ended e
 ended_after n old new ended rest (Err f) e = absurd e
+
+-- a record was read, and more may follow
+pub more_read : (head h : Head) (n : ℕ) (all rs : List Record) (r : Record) (old new : Workload) (out : Result Prefix InputFault)
+    → h ≡ head → all ≡ r ∷ rs → (progress : Progress) → progress ≡ More → Advances old new (said_by h old r) progress
+    → prefix_on head n all old ≡ out → prefix_on head (n + 1) rs new ≡ out
+more_read head h n all rs r old new out same e progress is said inv =
+    let here : Advances old new (said_by head old r) More =
+    subst (λ (x : Head). Advances old new (said_by x old r) More) same (subst (λ (q : Progress). Advances old new (said_by h old r) q) is said) in
+    more_after n old new (Ok (record { work = old; last = n; more = rs })) (prefix_on head (n + 1) rs) (said_by head old r) here
+    ∙ ap (λ (l : List Record). prefix_on head n l old) (sym e) ∙ inv
+
+-- the end was read
+pub end_read : (head h : Head) (n : ℕ) (all rs : List Record) (r : Record) (old new : Workload) (out : Result Prefix InputFault)
+    → h ≡ head → all ≡ r ∷ rs → (progress : Progress) → progress ≡ Ended → Advances old new (said_by h old r) progress
+    → prefix_on head n all old ≡ out → out ≡ Ok (record { work = new; last = n; more = rs })
+end_read head h n all rs r old new out same e progress is said inv =
+    let here : Advances old new (said_by head old r) Ended =
+    subst (λ (x : Head). Advances old new (said_by x old r) Ended) same (subst (λ (q : Progress). Advances old new (said_by h old r) q) is said) in
+    sym inv ∙ ap (λ (l : List Record). prefix_on head n l old) e
+    ∙ sym (ended_after n old new (λ w. Ok (record { work = w; last = n; more = rs })) (prefix_on head (n + 1) rs) (said_by head old r) here)
+
+-- a record is at fault
+pub failed_read : (head h : Head) (n : ℕ) (all rs more : List Record) (r : Record) (old : Workload) (out : Result Prefix InputFault) (e : RecordError) (error : ReadError)
+    → h ≡ head → all ≡ r ∷ rs → error ≡ error_at n e → Fails e (said_by h old r) → prefix_on head n all old ≡ out → ReadsToEnd (Err error) more out
+failed_read head h n all rs more r old out errors.NoMemory error same next is failed inv = rw is tt
+failed_read head h n all rs more r old out (errors.Flawed f) error same next is failed inv =
+    rw is (sym inv ∙ ap (λ (l : List Record). prefix_on head n l old) next
+    ∙ ap (read_after n old (Ok (record { work = old; last = n; more = rs })) (prefix_on head (n + 1) rs)) (subst (λ (x : Head). said_by x old r ≡ Err f) same failed))
 
 -- a whole file is the records up to its end, and none behind it
 

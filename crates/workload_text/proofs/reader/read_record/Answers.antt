@@ -10,4 +10,4 @@ same_count fields r e some = omega (arith, ap length e, length-map fields (λ (f
 
 pub meaning-requires-clause-word : goal.meaning-requires-clause-word
 meaning-requires-clause-word c =
-    rw c.deref.ensures.value (same_count c.in_ok-fields.fields.items (fields_of c.args.current.now) c.in_ok-fields.ensures c.requires)
+    rw c.deref.ensures.value (same_count c.in_ok-fields.fields.items (fields_of c.args.current.now) c.in_ok-fields.ensures c.requires.word)
