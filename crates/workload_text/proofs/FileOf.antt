@@ -1,6 +1,6 @@
 -- The file of a valid workload gives it.
-use Rattle.std.proofs.Common.{◌≡◌, ◌∙◌, ℕ, true, ◌&&◌, List, [], ◌∷◌, ◌++◌, map, length, Ok, refl, ap, subst, sym}
-use Rattle.std.specs.Prelude.{nat_le, if◌then◌else◌}
+use Rattle.std.proofs.Common.{◌≡◌, ◌∙◌, ℕ, true, ◌&&◌, List, [], ◌∷◌, ◌++◌, map, length, Ok, refl, ap}
+use Rattle.std.specs.Prelude.{nat_le}
 use Rattle.std.specs.List.{list_all}
 use Rattle.std.proofs.lemmas.Bool.{and_parts}
 use Rattle.csv.specs.Reading.{strip_bom}
@@ -17,7 +17,6 @@ use Rattle.txn_program.specs.declared.programs.WorkKind.{WorkKind}
 use Rattle.txn_program.specs.declared.programs.WorkKind.TheVariants as kinds
 use Rattle.txn_program.specs.declared.programs.Workload.{Workload}
 use Rattle.workload_text.specs.declared.heads.Format.{Format}
-use Rattle.workload_text.specs.declared.heads.Format.TheVariants.{One, Two}
 use Rattle.workload_text.specs.FileText.{loaded_record, item_record, program_record, format_for, head_record, end_records, records_with, records_in, file_of}
 use Rattle.workload_text.specs.Files.{AreNumbers, IsRising, AreByNumber, in_order}
 use Rattle.workload_text.specs.Grammar.{workload_from, workload_of}

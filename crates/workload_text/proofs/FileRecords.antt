@@ -1,6 +1,6 @@
 -- The records of a workload of YCSB give it.
 use Rattle.std.proofs.Common.{◌≡◌, ℕ, zero, suc, ◌+◌, ◌-◌, ◌^◌, ◌≤◌, ◌<◌, Bool, true, false, not, ◌&&◌, ◌==◌, List, [], ◌∷◌, ◌++◌, map, length, take, drop, refl, sym, ap, ◌∙◌, subst, arith, append_assoc, append-nil, Some, None, Result, Ok}
-use Rattle.std.specs.Prelude.{ℤ, pos, negsuc, if◌then◌else◌, nat_le, nat_lt, codes}
+use Rattle.std.specs.Prelude.{if◌then◌else◌, nat_le, nat_lt}
 use Rattle.std.specs.Fmt.{decimal}
 use Rattle.std.specs.List.{list_all, list_any, flat_map}
 use Rattle.std.proofs.lemmas.Bool.{and_parts, and_from, or_parts, true≢false, leb-true, lt-leb, ltb-true, le-ltb, eqb-true, eq-eqb, ne_eqb, not-true, not_from_true, not_from_false, or_from}
@@ -12,9 +12,6 @@ use Rattle.deneva_base.specs.declared.rows.Cell.{Cell}
 use Rattle.deneva_base.specs.declared.rows.Cell.TheVariants.{Num, Text}
 use Rattle.deneva_base.specs.declared.rows.Keyed.{Keyed}
 use Rattle.tpcc_rules.specs.declared.programs.Item.{Item}
-use Rattle.tpcc_rules.specs.declared.programs.Line.{Line}
-use Rattle.tpcc_rules.specs.declared.programs.NewOrder.{NewOrder}
-use Rattle.tpcc_rules.specs.declared.programs.Payment.{Payment}
 use Rattle.tpcc_rules.specs.Tables.{warehouse_key}
 use Rattle.txn_program.specs.Transactions.{ycsb_key}
 use Rattle.txn_program.specs.Valid.{is_text, is_text_cell, is_ycsb_key, is_ycsb_load, has_district, is_valid_row, are_distinct, is_valid_act, is_valid_step, is_valid_program}

@@ -4,7 +4,9 @@ use Rattle.txn_program.specs.declared.programs.Workload.{Workload}
 use Rattle.workload_text.specs.declared.faults.Flaw.{Flaw}
 use Rattle.workload_text.specs.declared.faults.InputFault.{InputFault}
 use Rattle.workload_text.specs.declared.heads.Head.{Head}
+use Rattle.workload_text.specs.declared.faults.FaultKind.TheVariants.{Trailing}
 use Rattle.workload_text.specs.declared.faults.ReadError.{ReadError}
+use Rattle.workload_text.specs.declared.faults.ReadError.TheVariants.{NoMemory, Fault, ReadFault}
 use Rattle.workload_text.specs.declared.faults.RecordError.{RecordError}
 use Rattle.workload_text.specs.declared.faults.RecordError.TheVariants as errors
 use Rattle.workload_text.specs.declared.reading.Progress.{Progress}
@@ -13,8 +15,9 @@ use Rattle.workload_text.specs.declared.said.Said.{Said}
 use Rattle.workload_text.specs.declared.said.Said.TheVariants.{Loads, Sells, Runs, Ends}
 use Rattle.records.specs.Records.{Record}
 use Rattle.workload_text.specs.Grammar.{Prefix, said_by, read_after, read_on, at_end, with_row, with_item, with_program, head_from, empty, prefix_on, prefix_from, read_from_head, prefix_from_head, workload_from}
+use Rattle.workload_text.specs.Fields.{fault}
 use Rattle.workload_text.specs.Gives.{Fails}
-use Rattle.workload_text.specs.Reader.{Advances, ReadsToEnd, error_at}
+use Rattle.workload_text.specs.Reader.{Advances, Reads, ReadsToEnd, error_at}
 use Rattle.workload_text.proofs.Bound.{same_ok}
 
 -- more may follow
@@ -90,6 +93,23 @@ whole_from_head (Err f) rs = refl
 pub whole_from : (rs : List Record) → workload_from rs ≡ none_behind (prefix_from rs)
 whole_from [] = refl
 whole_from (r ∷ rs) = whole_from_head (head_from r) rs
+
+-- the answers for a whole file, by what reading to its end answered
+
+pub whole_failed : (all rs more : List Record) (error : ReadError) → all ≡ rs → ReadsToEnd (Err error) more (prefix_from all) → Reads (Err error) (workload_from rs)
+whole_failed all rs more NoMemory same read = tt
+whole_failed all rs more (Fault f) same read = sym (ap workload_from same) ∙ whole_from all ∙ ap none_behind read
+whole_failed all rs more ReadFault same read = absurd read
+
+pub whole_ended : (all rs more : List Record) (work out : Workload) (n : ℕ) → all ≡ rs → prefix_from all ≡ Ok (record { work = work; last = n; more = more }) → more ≡ [] → out ≡ work
+    → workload_from rs ≡ Ok out
+whole_ended all rs more work out n same read none is =
+    sym (ap workload_from same) ∙ whole_from all ∙ ap none_behind read ∙ ap (at_end work (n + 1)) none ∙ sym (ap Ok is)
+
+pub whole_trailing : (all rs more tail : List Record) (r : Record) (work : Workload) (n : ℕ) (f : InputFault) → all ≡ rs → prefix_from all ≡ Ok (record { work = work; last = n; more = more })
+    → more ≡ r ∷ tail → f ≡ fault (n + 1) 0 Trailing → workload_from rs ≡ Err f
+whole_trailing all rs more tail r work n f same read some is =
+    sym (ap workload_from same) ∙ whole_from all ∙ ap none_behind read ∙ ap (at_end work (n + 1)) some ∙ sym (ap Err is)
 
 -- the records up to and with the end are a file
 

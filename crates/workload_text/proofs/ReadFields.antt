@@ -1,7 +1,6 @@
 -- What was read at a field keeps to its limits, and what a record may say.
-use Rattle.std.proofs.Common.{◌≡◌, ℕ, zero, suc, ◌≤◌, ◌<◌, ℤ, Bool, true, false, not, ◌&&◌, ◌==◌, List, [], ◌∷◌, length, take, drop, get_or, refl, ap, subst, Result, Ok, Err}
+use Rattle.std.proofs.Common.{◌≡◌, ℕ, ◌≤◌, ◌<◌, ℤ, Bool, true, false, not, ◌&&◌, ◌==◌, List, length, ap, subst, Result, Ok, Err}
 use Rattle.std.specs.Prelude.{nat_le, int_le}
-use Rattle.std.specs.List.{list_all}
 use Rattle.std.proofs.lemmas.Bool.{and_parts, and_from, leb-true, leb-false, le-leb}
 use Rattle.deneva_base.specs.Rows.{has_key}
 use Rattle.deneva_base.specs.declared.keys.Key.{Key}

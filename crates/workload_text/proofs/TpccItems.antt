@@ -1,6 +1,6 @@
 -- The records of items give them.
 use Rattle.std.proofs.Common.{◌≡◌, ℕ, ◌+◌, ◌≤◌, ◌<◌, Bool, true, false, not, ◌&&◌, ◌==◌, List, [], ◌∷◌, ◌++◌, map, length, refl, sym, ap, ◌∙◌, arith, Ok}
-use Rattle.std.specs.Prelude.{ℤ, pos, int_le, if◌then◌else◌, nat_le, codes}
+use Rattle.std.specs.Prelude.{ℤ, pos, int_le, nat_le, codes}
 use Rattle.std.specs.Fmt.{decimal}
 use Rattle.std.specs.List.{list_all, fold}
 use Rattle.std.proofs.lemmas.Bool.{and_parts, and_from, true≢false, lt-leb, eq-eqb, not-true, not_from_false, or_from, or_parts, ne_eqb}

@@ -1,6 +1,6 @@
 -- The records of the rows of TPC-C give them.
-use Rattle.std.proofs.Common.{◌≡◌, ℕ, zero, suc, ◌+◌, ◌-◌, ◌^◌, ◌≤◌, ◌<◌, Bool, true, false, not, ◌&&◌, ◌==◌, List, [], ◌∷◌, ◌++◌, map, length, drop, refl, sym, ap, ◌∙◌, arith, Result, Ok, inl, inr}
-use Rattle.std.specs.Prelude.{ℤ, pos, negsuc, int_le, if◌then◌else◌, nat_le, codes, slice_index_or}
+use Rattle.std.proofs.Common.{◌≡◌, ℕ, zero, suc, ◌+◌, ◌-◌, ◌^◌, ◌≤◌, ◌<◌, Bool, true, false, not, ◌&&◌, ◌==◌, List, [], ◌∷◌, map, length, drop, refl, sym, ap, ◌∙◌, arith, Result, Ok, inl, inr}
+use Rattle.std.specs.Prelude.{ℤ, pos, negsuc, int_le, nat_le, slice_index_or}
 use Rattle.std.specs.Fmt.{decimal}
 use Rattle.std.specs.List.{list_all}
 use Rattle.std.proofs.lemmas.Bool.{and_parts, and_from, false≢true, leb-true, lt-leb, eqb-true, eq-eqb, not_from_true, cases_Bool}
@@ -24,7 +24,7 @@ use Rattle.workload_text.specs.declared.said.Said.TheVariants.{Loads}
 use Rattle.workload_text.specs.declared.tables.Table.{Table}
 use Rattle.workload_text.specs.declared.tables.Table.TheVariants.{Warehouse, District, Customer, Stock}
 use Rattle.workload_text.specs.Fields.{field_at, placed_at, number_at, integer_at, short_text_at}
-use Rattle.workload_text.specs.FileText.{signed, cell_text, key_fields, table_at, table_record, tpcc_row_record}
+use Rattle.workload_text.specs.FileText.{signed, cell_text, table_at, table_record, tpcc_row_record}
 use Rattle.workload_text.specs.Gives.{◌>>=◌}
 use Rattle.workload_text.specs.Grammar.{said_by}
 use Rattle.workload_text.specs.Tpcc.{width_of, columns_of, key_from, cell_at, cells_from, row_from, before_runs}

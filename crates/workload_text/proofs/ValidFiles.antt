@@ -1,5 +1,5 @@
 -- What the grammar reads is valid.
-use Rattle.std.proofs.Common.{◌≡◌, ℕ, zero, suc, ◌+◌, ◌-◌, ◌≤◌, ◌<◌, Bool, true, false, not, ◌&&◌, ◌==◌, List, [], ◌∷◌, map, length, drop, refl, sym, ap, ◌∙◌, subst, arith, Option, Some, None, Result, Ok, Err, inl, inr}
+use Rattle.std.proofs.Common.{◌≡◌, ℕ, zero, suc, ◌+◌, ◌-◌, ◌≤◌, ◌<◌, Bool, true, false, not, ◌&&◌, ◌==◌, List, [], ◌∷◌, map, length, take, drop, refl, sym, ap, ◌∙◌, subst, arith, Option, Some, None, Result, Ok, Err, inl, inr}
 use Rattle.std.specs.Prelude.{if◌then◌else◌, nat_lt, codes}
 use Rattle.std.specs.List.{list_all, list_any}
 use Rattle.std.specs.Str.{bytes_eq}
@@ -41,10 +41,11 @@ use Rattle.workload_text.specs.Files.{IsRising}
 use Rattle.workload_text.specs.Gives.{◌>>=◌}
 use Rattle.records.specs.Records.{Record, records_of}
 use Rattle.workload_text.specs.Fields.{field_at, number_at, text_at, texts_from}
-use Rattle.workload_text.specs.Grammar.{format_of, ycsb_head, kind_of_format, head_of_format, head_from, kind_of, fields_of_head, said_of_ycsb, said_by, with_row, with_item, with_program, at_end, read_after, read_on, empty, read_from_head, workload_from, workload_of}
+use Rattle.workload_text.specs.Grammar.{format_of, ycsb_head, kind_of_format, head_of_format, head_from, kind_of, fields_of_head, said_of_ycsb, said_by, with_row, with_item, with_program, at_end, read_after, read_on, empty, read_from_head, workload_from, workload_of, Prefix, prefix_from}
 use Rattle.workload_text.specs.SortedItems.{put_item}
 use Rattle.workload_text.specs.Ycsb.{row_from, width, width_of_put, put_from, act_from, step_from, word_at, args_of, steps_from, first_unknown, first_repeated, none_at, txn_of}
 use Rattle.workload_text.proofs.Bound.{bound, passed, held, either_gave, same_ok}
+use Rattle.workload_text.proofs.Onward.{taken_from}
 use Rattle.workload_text.proofs.Puts.{list_all-put, keys_rise-put, length-put}
 use Rattle.workload_text.proofs.ReadFields.{number_between, short_text_read, Allowed, row_allowed, run_allowed, end_allowed}
 use Rattle.workload_text.proofs.SortedItems.{list_all-put_item, numbers_rise-put_item, length-put_item}
@@ -418,3 +419,11 @@ reads_valid bytes work h = records_valid (records_of bytes) work h
 
 pub reads_rising : (bytes : List ℕ) (work : Workload) → workload_of bytes ≡ Ok work → IsRising work.load.rows
 reads_rising bytes work h = records_rising (records_of bytes) work h
+
+-- the same of the first records that are a file
+
+pub prefix_valid : (rs : List Record) (p : Prefix) (work : Workload) → prefix_from rs ≡ Ok p → work ≡ p.work → IsValid work
+prefix_valid rs p work h is = subst IsValid (sym is) (records_valid (take p.last rs) p.work (taken_from rs p h))
+
+pub prefix_rising : (rs : List Record) (p : Prefix) (work : Workload) → prefix_from rs ≡ Ok p → work ≡ p.work → IsRising work.load.rows
+prefix_rising rs p work h is = subst (λ (w : Workload). IsRising w.load.rows) (sym is) (records_rising (take p.last rs) p.work (taken_from rs p h))

@@ -18,7 +18,6 @@ use Rattle.txn_program.specs.declared.programs.Program.{Program}
 use Rattle.txn_program.specs.declared.programs.Program.TheVariants.{Ycsb, Payment, NewOrder}
 use Rattle.txn_program.specs.declared.programs.WorkKind.{WorkKind}
 use Rattle.txn_program.specs.declared.programs.WorkKind.TheVariants as kinds
-use Rattle.txn_program.specs.declared.programs.Load.{Load}
 use Rattle.txn_program.specs.declared.programs.Workload.{Workload}
 use Rattle.workload_text.specs.declared.heads.Format.{Format}
 use Rattle.workload_text.specs.declared.heads.Format.TheVariants.{One, Two}

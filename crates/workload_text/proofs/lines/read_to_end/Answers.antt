@@ -1,4 +1,4 @@
-use Rattle.std.proofs.Common.{◌≡◌, ◌∙◌, ap, arith, length, refl, sym}
+use Rattle.std.proofs.Common.{◌∙◌, ap, arith, length, refl, sym}
 use Rattle.csv.specs.Records.{fields_of}
 use Rattle.workload_text.specs.Reader.{work_of}
 use Rattle.workload_text.specs.Grammar as grammar
