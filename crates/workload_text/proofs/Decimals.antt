@@ -3,10 +3,9 @@ use Rattle.std.proofs.Common.{◌≡◌, ℕ, zero, suc, ◌+◌, ◌-◌, ◌*�
 use Rattle.std.specs.Prelude.{nat_le}
 use Rattle.std.specs.Fmt.{decimal}
 use Rattle.std.specs.List.{list_all, fold}
-use Rattle.std.proofs.lemmas.Bool.{and_parts, and_from, le-leb, leb-true, ne_eqb, not_from_true, not_from_false, or_from}
+use Rattle.std.proofs.lemmas.Bool.{and_parts, and_from, le-leb, ne_eqb, not_from_true, not_from_false}
 use Rattle.std.proofs.lemmas.Fmt.{decimal_digit, digits_decimal, digits_value-decimal, first_decimal}
 use Rattle.std.proofs.lemmas.Str.Parse.{IsNumeralModel, numerals_by_fold}
-use Rattle.txn_program.specs.Valid.{is_plain}
 use Rattle.workload_text.specs.Numbers.{is_digit, is_number, value_of, number_in}
 
 own : IsNumeralModel (λ ds. list_all is_digit ds ≡ true) value_of
@@ -34,15 +33,3 @@ number_in-decimal low high n above below h =
     let number : not (is_number (decimal n)) ≡ false = not_from_true _ (is_number-decimal n h) in
     let within : (nat_le low n && nat_le n high) ≡ true = and_from _ _ (le-leb low n above) (le-leb n high below) in
     rw (number, value, within) refl
-
-digit_is_plain : (b : ℕ) → is_digit b ≡ true → is_plain b ≡ true
-digit_is_plain b h =
-    let low : 48 ≤ b = leb-true 48 b (and_parts _ _ h).0 in
-    not_from_false _ (or_from _ _ (or_from _ _ (or_from _ _ (ne_eqb b 44 (λ e. absurd (omega arith))) (ne_eqb b 34 (λ e. absurd (omega arith)))) (ne_eqb b 10 (λ e. absurd (omega arith)))) (ne_eqb b 13 (λ e. absurd (omega arith))))
-
-digits_are_plain : (ds : List ℕ) → list_all is_digit ds ≡ true → list_all is_plain ds ≡ true
-digits_are_plain [] h = refl
-digits_are_plain (b ∷ ds) h = and_from _ _ (digit_is_plain b (and_parts _ _ h).0) (digits_are_plain ds (and_parts _ _ h).1)
-
-pub plain_decimal : (n : ℕ) → n < 2 ^ 64 → list_all is_plain (decimal n) ≡ true
-plain_decimal n h = digits_are_plain (decimal n) (digits_of_decimal n h)

@@ -1,6 +1,6 @@
--- The records of a workload, and that they give it.
+-- The records of a workload of YCSB give it.
 use Rattle.std.proofs.Common.{◌≡◌, ℕ, zero, suc, ◌+◌, ◌-◌, ◌^◌, ◌≤◌, ◌<◌, Bool, true, false, not, ◌&&◌, ◌==◌, List, [], ◌∷◌, ◌++◌, map, length, take, drop, refl, sym, ap, ◌∙◌, subst, arith, append_assoc, append-nil, Some, None, Result, Ok}
-use Rattle.std.specs.Prelude.{ℤ, pos, negsuc, if◌then◌else◌, nat_le, nat_lt, codes}
+use Rattle.std.specs.Prelude.{if◌then◌else◌, nat_le, nat_lt}
 use Rattle.std.specs.Fmt.{decimal}
 use Rattle.std.specs.List.{list_all, list_any, flat_map}
 use Rattle.std.proofs.lemmas.Bool.{and_parts, and_from, or_parts, true≢false, leb-true, lt-leb, ltb-true, le-ltb, eqb-true, eq-eqb, ne_eqb, not-true, not_from_true, not_from_false, or_from}
@@ -11,9 +11,7 @@ use Rattle.deneva_base.specs.declared.keys.Key.{Key}
 use Rattle.deneva_base.specs.declared.rows.Cell.{Cell}
 use Rattle.deneva_base.specs.declared.rows.Cell.TheVariants.{Num, Text}
 use Rattle.deneva_base.specs.declared.rows.Keyed.{Keyed}
-use Rattle.tpcc_rules.specs.declared.programs.Line.{Line}
-use Rattle.tpcc_rules.specs.declared.programs.NewOrder.{NewOrder}
-use Rattle.tpcc_rules.specs.declared.programs.Payment.{Payment}
+use Rattle.tpcc_rules.specs.declared.programs.Item.{Item}
 use Rattle.tpcc_rules.specs.Tables.{warehouse_key}
 use Rattle.txn_program.specs.Transactions.{ycsb_key}
 use Rattle.txn_program.specs.Valid.{is_text, is_text_cell, is_ycsb_key, is_ycsb_load, has_district, is_valid_row, are_distinct, is_valid_act, is_valid_step, is_valid_program}
@@ -28,71 +26,30 @@ use Rattle.txn_program.specs.declared.programs.Load.{Load}
 use Rattle.txn_program.specs.declared.programs.Workload.{Workload}
 use Rattle.workload_text.specs.declared.faults.FaultKind.TheVariants.{UnknownKey, Repeated}
 use Rattle.workload_text.specs.declared.faults.Flaw.{Flaw}
-use Rattle.workload_text.specs.declared.heads.Format.TheVariants.{Two}
+use Rattle.workload_text.specs.declared.heads.Format.{Format}
+use Rattle.workload_text.specs.declared.heads.Format.TheVariants.{One, Two}
 use Rattle.workload_text.specs.declared.heads.Head.{Head}
 use Rattle.workload_text.specs.declared.heads.Head.TheVariants as heads
 use Rattle.workload_text.specs.declared.heads.YcsbHead.{YcsbHead}
 use Rattle.workload_text.specs.declared.said.Said.TheVariants.{Loads, Runs}
 use Rattle.workload_text.specs.declared.steps.Placed.{Placed}
+use Rattle.workload_text.specs.FileText.{cell_text, row_record, item_record, act_word, act_fields, step_fields, program_record, replaces_row, replaces_rows, format_for, format_word, head_record, end_records, records_with}
 use Rattle.workload_text.specs.Files.{is_short, has_short_keys, AreNumbers, in_order}
 use Rattle.workload_text.specs.Gives.{◌>>=◌}
 use Rattle.workload_text.specs.SortedItems.{by_number}
 use Rattle.records.specs.Records.{Record}
 use Rattle.workload_text.specs.Fields.{number_at, placed_at, text_at, texts_from}
-use Rattle.workload_text.specs.Grammar.{said_by, with_row, read_after, read_on, empty, head_from, read_from_head, workload_from}
+use Rattle.workload_text.specs.Grammar.{format_of, kind_of_format, head_of_format, said_by, with_row, at_end, read_after, read_on, empty, head_from, read_from_head, workload_from}
 use Rattle.workload_text.specs.Loading.{row_of}
-use Rattle.workload_text.specs.Ycsb.{row_from, width, put_from, act_from, step_from, steps_from, first_unknown, first_repeated, none_at, txn_of}
+use Rattle.workload_text.specs.Ycsb.{row_from, width, width_of_put, put_from, act_from, step_from, steps_from, first_unknown, first_repeated, none_at, txn_of}
 use Rattle.workload_text.proofs.Decimals.{number_in-decimal}
 use Rattle.workload_text.proofs.Puts.{has_key-put, length-put}
 use Rattle.workload_text.proofs.StepByStep.{stepped}
 use Rattle.workload_text.proofs.InOrder.{ordered, keys_ordered, programs_ordered, loaded_key}
 
--- the records
-
--- a number with its sign
-abbrev pub signed : ℤ → List ℕ
-signed (pos n) = decimal n
-signed (negsuc n) = 45 ∷ decimal (suc n)
-
-abbrev pub cell_text : Cell → List ℕ
-cell_text (Num n) = signed n
-cell_text (Text text) = text
-
-abbrev pub row_record : Keyed → Record
-row_record r = codes "row" ∷ decimal r.key.a ∷ map cell_text r.row
-
-abbrev pub act_word : YcsbAct → List ℕ
-act_word Read = codes "r"
-act_word (Update put) = codes "u"
-act_word (Put row) = codes "p"
-
-abbrev pub act_fields : YcsbAct → Record
-act_fields Read = []
-act_fields (Update put) = decimal put.field ∷ put.text ∷ []
-act_fields (Put row) = map cell_text row
-
-abbrev pub step_fields : YcsbStep → Record
-step_fields step = act_word step.act ∷ decimal step.key ∷ act_fields step.act
-
--- the customer of a payment is named by his number
-
-abbrev pub payment_record : Payment → Record
-payment_record p = codes "payment" ∷ decimal p.w ∷ decimal p.d ∷ decimal p.cw ∷ decimal p.cd ∷ codes "id" ∷ decimal p.c ∷ signed p.amount ∷ []
-
-abbrev pub line_fields : Line → Record
-line_fields line = decimal line.item ∷ decimal line.supplier ∷ decimal line.quantity ∷ []
-
-abbrev pub order_record : NewOrder → Record
-order_record o = codes "neworder" ∷ decimal o.w ∷ decimal o.d ∷ decimal o.c ∷ flat_map line_fields o.lines
-
-abbrev pub program_record : Program → Record
-program_record (programs.Ycsb steps) = codes "txn" ∷ flat_map step_fields steps
-program_record (programs.Payment p) = payment_record p
-program_record (programs.NewOrder o) = order_record o
-
--- the head of a file in format 2
-abbrev pub head_two : ℕ → YcsbHead
-head_two fields = record { format = Two; fields = fields }
+-- a head of this format
+abbrev pub head_in : Format → ℕ → YcsbHead
+head_in format fields = record { format = format; fields = fields }
 
 -- one definition after another, where the first gives a value
 
@@ -112,7 +69,7 @@ key_back : (place key : ℕ) → is_short key ≡ true → number_at place 0 429
 key_back place key h = let short : key < 2 ^ 32 = ltb-true key (2 ^ 32) h in number_back place 0 4294967295 key (omega arith) (omega arith) (omega arith)
 
 text_back : (n : ℕ) (text : List ℕ) → is_text text ≡ true → text_at n text ≡ Ok text
-text_back n text h = if_true (nat_le (length text) 100) _ _ (and_parts _ _ h).0
+text_back n text h = if_true (nat_le (length text) 100) _ _ h
 
 texts_back : (n : ℕ) (cells : List Cell) → list_all is_text_cell cells ≡ true → texts_from n (map cell_text cells) ≡ Ok cells
 texts_back n [] h = refl
@@ -167,7 +124,7 @@ rows_back head recorded fits each n (r ∷ rows) more work out none valid apart 
     let free : has_key work.load.rows r.key ≡ false = not-true _ (and_parts _ _ new).0 in
     let long : length (put work.load.rows r) ≡ length work.load.rows + 1 = length-put work.load.rows r free in
     let left : length (put work.load.rows r) + length rows ≤ 1000000 = omega arith in
-    ap (read_after n work (map recorded rows ++ more) (read_on head (n + 1) (map recorded rows ++ more))) (each work r none (and_parts _ _ valid).0 free less)
+    ap (read_after n work (at_end work (n + 1) (map recorded rows ++ more)) (read_on head (n + 1) (map recorded rows ++ more))) (each work r none (and_parts _ _ valid).0 free less)
     ∙ rows_back head recorded fits each (n + 1) rows more (with_row work r) out none (and_parts _ _ valid).1 (and_parts _ _ apart).1
     (still_new work.load.rows r rows (not-true _ (and_parts _ _ apart).0) (and_parts _ _ new).1) left go
 
@@ -184,29 +141,44 @@ short_rows fields (r ∷ rows) valid short =
 
 -- a step
 
-put_back : (fields n : ℕ) (put : YcsbPut) → fields ≤ 10 → is_valid_act fields (Update put) ≡ true → put_from (head_two fields) n (decimal put.field ∷ put.text ∷ []) ≡ Ok put
-put_back fields n put few h =
+put_back : (format : Format) (fields n : ℕ) (put : YcsbPut) → fields ≤ 10 → is_valid_act fields (Update put) ≡ true → put_from (head_in format fields) n (decimal put.field ∷ put.text ∷ []) ≡ Ok put
+put_back format fields n put few h =
     let inside : put.field < fields = ltb-true put.field fields (and_parts _ _ h).0 in
     then_ok (number_at (n + 2) 0 (fields - 1) (decimal put.field)) _ put.field (number_back (n + 2) 0 (fields - 1) put.field (omega arith) (omega arith) (omega arith))
     ∙ then_ok (text_at (n + 3) put.text) _ put.text (text_back (n + 3) put.text (and_parts _ _ h).1)
 
-act_back : (fields n : ℕ) (act : YcsbAct) → fields ≤ 10 → is_valid_act fields act ≡ true → act_from (head_two fields) n (act_word act) (act_fields act) ≡ Ok act
-act_back fields n Read few h = refl
-act_back fields n (Update put) few h = then_ok (put_from (head_two fields) n (decimal put.field ∷ put.text ∷ [])) _ put (put_back fields n put few h)
-act_back fields n (Put row) few h = then_ok (texts_from (n + 2) (map cell_text row)) _ row (texts_back (n + 2) row (and_parts _ _ h).1)
+act_back : (format : Format) (fields n : ℕ) (act : YcsbAct) → fields ≤ 10 → is_valid_act fields act ≡ true → act_from (head_in format fields) n (act_word act) (act_fields act) ≡ Ok act
+act_back format fields n Read few h = refl
+act_back format fields n (Update put) few h = then_ok (put_from (head_in format fields) n (decimal put.field ∷ put.text ∷ [])) _ put (put_back format fields n put few h)
+act_back format fields n (Put row) few h = then_ok (texts_from (n + 2) (map cell_text row)) _ row (texts_back (n + 2) row (and_parts _ _ h).1)
 
-step_back : (fields n : ℕ) (step : YcsbStep) → fields ≤ 10 → is_valid_act fields step.act ≡ true → is_short step.key ≡ true
-    → step_from (head_two fields) n (act_word step.act) (decimal step.key ∷ act_fields step.act) ≡ Ok (record { field_no = n + 1; step = step })
-step_back fields n step few fit short =
+step_back : (format : Format) (fields n : ℕ) (step : YcsbStep) → fields ≤ 10 → is_valid_act fields step.act ≡ true → is_short step.key ≡ true
+    → step_from (head_in format fields) n (act_word step.act) (decimal step.key ∷ act_fields step.act) ≡ Ok (record { field_no = n + 1; step = step })
+step_back format fields n step few fit short =
     then_ok (number_at (n + 1) 0 4294967295 (decimal step.key)) _ step.key (key_back (n + 1) step.key short)
-    ∙ then_ok (act_from (head_two fields) n (act_word step.act) (act_fields step.act)) _ step.act (act_back fields n step.act few fit)
+    ∙ then_ok (act_from (head_in format fields) n (act_word step.act) (act_fields step.act)) _ step.act (act_back format fields n step.act few fit)
 
-width_back : (fields key : ℕ) (act : YcsbAct) → is_valid_act fields act ≡ true → width (head_two fields) (act_word act) ≡ Some (length (decimal key ∷ act_fields act))
-width_back fields key Read h = refl
-width_back fields key (Update put) h = refl
-width_back fields key (Put row) h =
+-- an act that this format can say
+abbrev pub suits : Format → YcsbAct → Bool
+suits One act = not (replaces_row act)
+suits Two act = true
+
+abbrev pub suits_program : Format → Program → Bool
+suits_program format (programs.Ycsb steps) = list_all (λ step. suits format step.act) steps
+suits_program format (programs.Payment p) = true
+suits_program format (programs.NewOrder o) = true
+
+put_width : (format : Format) (fields : ℕ) (row : List Cell) → suits format (Put row) ≡ true → width_of_put format fields ≡ Some (1 + fields)
+put_width One fields row h = absurd (true≢false (sym h))
+put_width Two fields row h = refl
+
+width_back : (format : Format) (fields key : ℕ) (act : YcsbAct) → is_valid_act fields act ≡ true → suits format act ≡ true
+    → width (head_in format fields) (act_word act) ≡ Some (length (decimal key ∷ act_fields act))
+width_back format fields key Read h said = refl
+width_back format fields key (Update put) h said = refl
+width_back format fields key (Put row) h said =
     let long : length (map cell_text row) ≡ fields = length-map row cell_text ∙ eqb-true (length row) fields (and_parts _ _ h).0 in
-    ap Some (omega arith)
+    put_width format fields row said ∙ ap Some (omega arith)
 
 -- the steps of a transaction
 
@@ -218,31 +190,31 @@ drop_own : (xs ys : Record) → drop (length xs) (xs ++ ys) ≡ ys
 drop_own [] ys = refl
 drop_own (x ∷ xs) ys = drop_own xs ys
 
-record Back (fields most n : ℕ) (steps : List YcsbStep) : Type 0 where
+record Back (format : Format) (fields most n : ℕ) (steps : List YcsbStep) : Type 0 where
   placed : List Placed
-  read : steps_from (head_two fields) most n (flat_map step_fields steps) ≡ Ok placed
+  read : steps_from (head_in format fields) most n (flat_map step_fields steps) ≡ Ok placed
   same : map (λ p. p.step) placed ≡ steps
 
-steps_back : (load : Load) (steps : List YcsbStep) (most n : ℕ) → load.fields ≤ 10 → length steps ≤ most → list_all (is_valid_step load) steps ≡ true → list_all (λ step. is_short step.key) steps ≡ true
-    → Back load.fields most n steps
-steps_back load [] zero n few enough valid short = record { placed = []; read = refl; same = refl }
-steps_back load [] (suc m) n few enough valid short = record { placed = []; read = refl; same = refl }
-steps_back load (step ∷ steps) zero n few enough valid short = absurd (omega arith)
-steps_back load (step ∷ steps) (suc m) n few enough valid short =
+steps_back : (format : Format) (load : Load) (steps : List YcsbStep) (most n : ℕ) → load.fields ≤ 10 → length steps ≤ most → list_all (is_valid_step load) steps ≡ true → list_all (λ step. is_short step.key) steps ≡ true
+    → list_all (λ step. suits format step.act) steps ≡ true → Back format load.fields most n steps
+steps_back format load [] zero n few enough valid short said = record { placed = []; read = refl; same = refl }
+steps_back format load [] (suc m) n few enough valid short said = record { placed = []; read = refl; same = refl }
+steps_back format load (step ∷ steps) zero n few enough valid short said = absurd (omega arith)
+steps_back format load (step ∷ steps) (suc m) n few enough valid short said =
     let args : Record = decimal step.key ∷ act_fields step.act in
     let more : Record = args ++ flat_map step_fields steps in
     let placed : Placed = record { field_no = n + 1; step = step } in
     let left : length steps ≤ m = omega arith in
     let inside : length args ≤ length more = omega (arith, length-append args (flat_map step_fields steps)) in
     let fit = (and_parts _ _ (and_parts _ _ valid).0).1 in
-    let rest = steps_back load steps m (n + 1 + length args) few left (and_parts _ _ valid).1 (and_parts _ _ short).1 in
+    let rest = steps_back format load steps m (n + 1 + length args) few left (and_parts _ _ valid).1 (and_parts _ _ short).1 (and_parts _ _ said).1 in
     record {
       placed = placed ∷ rest.placed;
-      read = stepped (head_two load.fields) m n (length args) (flat_map step_fields (step ∷ steps)) more args (act_word step.act) refl (width_back load.fields step.key step.act fit) inside
+      read = stepped (head_in format load.fields) m n (length args) (flat_map step_fields (step ∷ steps)) more args (act_word step.act) refl (width_back format load.fields step.key step.act fit (and_parts _ _ said).0) inside
           (take_own args (flat_map step_fields steps))
-          ∙ then_ok (step_from (head_two load.fields) n (act_word step.act) args) _ placed (step_back load.fields n step few fit (and_parts _ _ short).0)
-          ∙ then_ok (steps_from (head_two load.fields) m (n + 1 + length args) (drop (length args) more)) _ rest.placed
-          (ap (steps_from (head_two load.fields) m (n + 1 + length args)) (drop_own args (flat_map step_fields steps)) ∙ rest.read);
+          ∙ then_ok (step_from (head_in format load.fields) n (act_word step.act) args) _ placed (step_back format load.fields n step few fit (and_parts _ _ short).0)
+          ∙ then_ok (steps_from (head_in format load.fields) m (n + 1 + length args) (drop (length args) more)) _ rest.placed
+          (ap (steps_from (head_in format load.fields) m (n + 1 + length args)) (drop_own args (flat_map step_fields steps)) ∙ rest.read);
       same = ap (λ (l : List YcsbStep). step ∷ l) rest.same;
     }
 
@@ -309,45 +281,87 @@ HasYcsbKeys load = (k : Key) → has_key load.rows k ≡ true → is_ycsb_key k 
 pub no_warehouse : (load : Load) (w d : ℕ) → HasYcsbKeys load → has_district load w d ≡ true → ⊥
 no_warehouse load w d keys h = true≢false (sym (keys (warehouse_key w) (and_parts _ _ h).0))
 
-program_back : (work : Workload) (p : Program) → HasYcsbKeys work.load → work.load.fields ≤ 10 → is_valid_program work.load p ≡ true → has_short_keys p ≡ true → length work.programs < 10000
-    → said_by (heads.Ycsb (head_two work.load.fields)) work (program_record p) ≡ Ok (Runs p)
-program_back work (programs.Ycsb steps) keys few valid short room =
+program_back : (format : Format) (work : Workload) (p : Program) → HasYcsbKeys work.load → work.load.fields ≤ 10 → is_valid_program work.load p ≡ true → has_short_keys p ≡ true → suits_program format p ≡ true
+    → length work.programs < 10000
+    → said_by (heads.Ycsb (head_in format work.load.fields)) work (program_record p) ≡ Ok (Runs p)
+program_back format work (programs.Ycsb steps) keys few valid short said room =
     let enough : length steps ≤ length (program_record (programs.Ycsb steps)) = omega (arith, enough_fields steps) in
-    let back = steps_back work.load steps (length (program_record (programs.Ycsb steps))) 2 few enough (and_parts _ _ (and_parts _ _ valid).0).1 short in
-    then_ok (steps_from (head_two work.load.fields) (length (program_record (programs.Ycsb steps))) 2 (flat_map step_fields steps)) _ back.placed back.read
+    let back = steps_back format work.load steps (length (program_record (programs.Ycsb steps))) 2 few enough (and_parts _ _ (and_parts _ _ valid).0).1 short said in
+    then_ok (steps_from (head_in format work.load.fields) (length (program_record (programs.Ycsb steps))) 2 (flat_map step_fields steps)) _ back.placed back.read
     ∙ txn_back work back.placed (subst (λ (l : List YcsbStep). is_valid_program work.load (programs.Ycsb l) ≡ true) (sym back.same) valid) room
     ∙ ap (λ (l : List YcsbStep). Ok (Runs (programs.Ycsb l))) back.same
-program_back work (programs.Payment p) keys few valid short room = absurd (no_warehouse work.load p.w p.d keys (and_parts _ _ (and_parts _ _ valid).0).1)
-program_back work (programs.NewOrder o) keys few valid short room = absurd (no_warehouse work.load o.w o.d keys (and_parts _ _ (and_parts _ _ valid).0).1)
+program_back format work (programs.Payment p) keys few valid short said room = absurd (no_warehouse work.load p.w p.d keys (and_parts _ _ (and_parts _ _ valid).0).1)
+program_back format work (programs.NewOrder o) keys few valid short said room = absurd (no_warehouse work.load o.w o.d keys (and_parts _ _ (and_parts _ _ valid).0).1)
 
 -- the transactions, one record each
-pub programs_back : (head : Head) (load : Load) (n : ℕ) (done ps all : List Program) (more : List Record) (out : Workload)
-    → ((work : Workload) (p : Program) → work.load ≡ load → is_valid_program load p ≡ true → has_short_keys p ≡ true → length work.programs < 10000 → said_by head work (program_record p) ≡ Ok (Runs p))
-    → list_all (is_valid_program load) ps ≡ true → list_all has_short_keys ps ≡ true → length done + length ps ≤ 10000 → done ++ ps ≡ all
+pub programs_back : (head : Head) (fits : Program → Bool) (load : Load) (n : ℕ) (done ps all : List Program) (more : List Record) (out : Workload)
+    → ((work : Workload) (p : Program) → work.load ≡ load → is_valid_program load p ≡ true → fits p ≡ true → length work.programs < 10000 → said_by head work (program_record p) ≡ Ok (Runs p))
+    → list_all (is_valid_program load) ps ≡ true → list_all fits ps ≡ true → length done + length ps ≤ 10000 → done ++ ps ≡ all
     → ((m : ℕ) → read_on head m more (record { load = load; programs = all }) ≡ Ok out)
     → read_on head n (map program_record ps ++ more) (record { load = load; programs = done }) ≡ Ok out
-programs_back head load n done [] all more out each valid short room e go =
+programs_back head fits load n done [] all more out each valid short room e go =
     subst (λ (l : List Program). read_on head n more (record { load = load; programs = l }) ≡ Ok out) (sym e ∙ append-nil done) (go n)
-programs_back head load n done (p ∷ ps) all more out each valid short room e go =
+programs_back head fits load n done (p ∷ ps) all more out each valid short room e go =
     let work : Workload = record { load = load; programs = done } in
-    let fits : length done < 10000 = omega arith in
+    let space : length done < 10000 = omega arith in
     let left : length (done ++ p ∷ []) + length ps ≤ 10000 = omega (arith, length-append done (p ∷ [])) in
-    ap (read_after n work (map program_record ps ++ more) (read_on head (n + 1) (map program_record ps ++ more))) (each work p refl (and_parts _ _ valid).0 (and_parts _ _ short).0 fits)
-    ∙ programs_back head load (n + 1) (done ++ p ∷ []) ps all more out each (and_parts _ _ valid).1 (and_parts _ _ short).1 left (append_assoc done (p ∷ []) ps ∙ e) go
+    ap (read_after n work (at_end work (n + 1) (map program_record ps ++ more)) (read_on head (n + 1) (map program_record ps ++ more))) (each work p refl (and_parts _ _ valid).0 (and_parts _ _ short).0 space)
+    ∙ programs_back head fits load (n + 1) (done ++ p ∷ []) ps all more out each (and_parts _ _ valid).1 (and_parts _ _ short).1 left (append_assoc done (p ∷ []) ps ∙ e) go
 
--- the head of a file
-abbrev pub head_record : ℕ → Record
-head_record fields = codes "deneva" ∷ codes "2" ∷ codes "ycsb" ∷ decimal fields ∷ []
+word_back : (format : Format) → format_of (format_word format) ≡ Some format
+word_back One = refl
+word_back Two = refl
 
-pub head_back : (fields : ℕ) → 1 ≤ fields → fields ≤ 10 → head_from (head_record fields) ≡ Ok (heads.Ycsb (head_two fields))
-head_back fields some few = then_ok (number_at 4 1 10 (decimal fields)) _ fields (number_back 4 1 10 fields some few (omega arith))
+kind_back : (format : Format) (fields : ℕ) → 1 ≤ fields → fields ≤ 10 → kind_of_format (head_record kinds.Ycsb format fields) format ≡ Ok (heads.Ycsb (head_in format fields))
+kind_back One fields some few = then_ok (number_at 4 1 10 (decimal fields)) _ fields (number_back 4 1 10 fields some few (omega arith))
+kind_back Two fields some few = then_ok (number_at 4 1 10 (decimal fields)) _ fields (number_back 4 1 10 fields some few (omega arith))
 
-abbrev pub end_records : List Record
-end_records = (codes "end" ∷ []) ∷ []
+pub head_back : (format : Format) (fields : ℕ) → 1 ≤ fields → fields ≤ 10 → head_from (head_record kinds.Ycsb format fields) ≡ Ok (heads.Ycsb (head_in format fields))
+head_back format fields some few =
+    ap (head_of_format (head_record kinds.Ycsb format fields)) (word_back format) ∙ kind_back format fields some few
 
--- the records of a workload
-abbrev pub file_records : Workload → List Record
-file_records work = head_record work.load.fields ∷ (map row_record work.load.rows ++ (map program_record work.programs ++ end_records))
+-- the format of a file suits its transactions
+
+suits_two : (steps : List YcsbStep) → list_all (λ step. suits Two step.act) steps ≡ true
+suits_two [] = refl
+suits_two (step ∷ steps) = suits_two steps
+
+suits_one : (steps : List YcsbStep) → list_any (λ step. replaces_row step.act) steps ≡ false → list_all (λ step. suits One step.act) steps ≡ true
+suits_one [] h = refl
+suits_one (step ∷ steps) h = let parts = or_parts _ _ h in and_from _ _ (not_from_false _ parts.0) (suits_one steps parts.1)
+
+program_suits_two : (p : Program) → suits_program Two p ≡ true
+program_suits_two (programs.Ycsb steps) = suits_two steps
+program_suits_two (programs.Payment p) = refl
+program_suits_two (programs.NewOrder o) = refl
+
+program_suits_one : (p : Program) → replaces_rows p ≡ false → suits_program One p ≡ true
+program_suits_one (programs.Ycsb steps) h = suits_one steps h
+program_suits_one (programs.Payment p) h = refl
+program_suits_one (programs.NewOrder o) h = refl
+
+all_suit : (t : Bool) (ps : List Program) → list_any replaces_rows ps ≡ t → list_all (suits_program (if t then Two else One)) ps ≡ true
+all_suit t [] h = refl
+all_suit true (p ∷ ps) h = and_from _ _ (program_suits_two p) (two ps)
+  where
+    two : (ps : List Program) → list_all (suits_program Two) ps ≡ true
+    two [] = refl
+    two (p ∷ ps) = and_from _ _ (program_suits_two p) (two ps)
+all_suit false (p ∷ ps) h = let parts = or_parts _ _ h in and_from _ _ (program_suits_one p parts.0) (all_suit false ps parts.1)
+
+format_suits : (ps : List Program) → list_all (suits_program (format_for ps)) ps ≡ true
+format_suits ps = all_suit (list_any replaces_rows ps) ps refl
+
+-- what each transaction has to pass to be read from its record
+abbrev fits_record : Format → Program → Bool
+fits_record format p = has_short_keys p && suits_program format p
+
+all_fit : (format : Format) (ps : List Program) → list_all has_short_keys ps ≡ true → list_all (suits_program format) ps ≡ true → list_all (fits_record format) ps ≡ true
+all_fit format [] short said = refl
+all_fit format (p ∷ ps) short said =
+    let a = and_parts (has_short_keys p) (list_all has_short_keys ps) short in
+    let b = and_parts (suits_program format p) (list_all (suits_program format) ps) said in
+    and_from (fits_record format p) (list_all (fits_record format) ps) (and_from (has_short_keys p) (suits_program format p) a.0 b.0) (all_fit format ps a.1 b.1)
 
 pub all_new : (rows : List Keyed) → are_new [] rows ≡ true
 all_new [] = refl
@@ -390,21 +404,25 @@ pub own_ycsb_keys : (work : Workload) → Parts work → HasYcsbKeys work.load
 own_ycsb_keys work p k h = loaded_key is_ycsb_key work.load.rows k (ycsb_keys work.load.fields work.load.rows p.rows) h
 
 -- the records of a valid workload of YCSB give it
-pub ycsb_back : (work : Workload) → Parts work → AreNumbers work → kinds.Ycsb ≡ work.load.kind → workload_from (file_records work) ≡ Ok (in_order work)
+pub ycsb_back : (work : Workload) → Parts work → AreNumbers work → kinds.Ycsb ≡ work.load.kind → workload_from (records_with kinds.Ycsb work) ≡ Ok (in_order work)
 ycsb_back work p short kind =
     let keys = and_parts _ _ short in
     let load : Load = record { kind = kinds.Ycsb; fields = work.load.fields; rows = in_key_order work.load.rows; items = [] } in
     let same : load ≡ ordered work.load = λ i. record { kind = kind i; fields = work.load.fields; rows = in_key_order work.load.rows; items = by_number (sym p.items i) } in
     let out : Workload = record { load = load; programs = work.programs } in
-    let head = head_two work.load.fields in
-    let after : List Record = map program_record work.programs ++ end_records in
+    let format : Format = format_for work.programs in
+    let head = head_in format work.load.fields in
+    let runs : List Record = map program_record work.programs ++ end_records in
+    let after : List Record = map item_record work.load.items ++ runs in
     let own : HasYcsbKeys load = λ k h. own_ycsb_keys work p k (sym (keys_ordered work.load k) ∙ h) in
-    ap (λ h. read_from_head h (map row_record work.load.rows ++ after)) (head_back work.load.fields p.some p.few)
+    ap (λ h. read_from_head h (map row_record work.load.rows ++ after)) (head_back format work.load.fields p.some p.few)
     ∙ rows_back (heads.Ycsb head) row_record (is_short_row work.load.fields) (λ w r none v new room. row_back head w r none (and_parts _ _ v).0 (and_parts _ _ v).1 new room)
     2 work.load.rows after (empty (heads.Ycsb head)) out refl (short_rows work.load.fields work.load.rows p.rows keys.0) p.apart (all_new work.load.rows) (rows_fit work p)
-    (λ m. programs_back (heads.Ycsb head) load m [] work.programs work.programs end_records out
-    (λ w q e v s r. program_at w q load e own p.few v s r)
-    (subst (λ (l : Load). list_all (is_valid_program l) work.programs ≡ true) (sym same) (programs_ordered work.load work.programs p.programs)) keys.1 (programs_fit work p) refl (λ k. refl))
+    (λ m. subst (λ (items : List Item). read_on (heads.Ycsb head) m (map item_record items ++ runs) (record { load = load; programs = [] }) ≡ Ok out) (sym p.items)
+    (programs_back (heads.Ycsb head) (fits_record format) load m [] work.programs work.programs end_records out
+    (λ w q e v s r. program_at format w q load e own p.few v s r)
+    (subst (λ (l : Load). list_all (is_valid_program l) work.programs ≡ true) (sym same) (programs_ordered work.load work.programs p.programs))
+    (all_fit format work.programs keys.1 (format_suits work.programs)) (programs_fit work p) refl (λ k. refl)))
     ∙ ap (λ (l : Load). Ok (record { load = l; programs = work.programs })) same
   where
     rows_fit : (work : Workload) → Parts work → 0 + length work.load.rows ≤ 1000000
@@ -413,8 +431,9 @@ ycsb_back work p short kind =
     programs_fit : (work : Workload) → Parts work → 0 + length work.programs ≤ 10000
     programs_fit work p = let h : length work.programs ≤ 10000 = p.turns in omega arith
 
-    program_at : (work : Workload) (p : Program) (load : Load) → work.load ≡ load → HasYcsbKeys load → load.fields ≤ 10 → is_valid_program load p ≡ true → has_short_keys p ≡ true
-        → length work.programs < 10000 → said_by (heads.Ycsb (head_two load.fields)) work (program_record p) ≡ Ok (Runs p)
-    program_at work p load e own few valid short room =
-        subst (λ (l : Load). said_by (heads.Ycsb (head_two l.fields)) work (program_record p) ≡ Ok (Runs p)) e
-        (program_back work p (subst HasYcsbKeys (sym e) own) (subst (λ (l : Load). l.fields ≤ 10) (sym e) few) (subst (λ (l : Load). is_valid_program l p ≡ true) (sym e) valid) short room)
+    program_at : (format : Format) (work : Workload) (p : Program) (load : Load) → work.load ≡ load → HasYcsbKeys load → load.fields ≤ 10 → is_valid_program load p ≡ true
+        → fits_record format p ≡ true → length work.programs < 10000 → said_by (heads.Ycsb (head_in format load.fields)) work (program_record p) ≡ Ok (Runs p)
+    program_at format work p load e own few valid fit room =
+        let f = and_parts (has_short_keys p) (suits_program format p) fit in
+        subst (λ (l : Load). said_by (heads.Ycsb (head_in format l.fields)) work (program_record p) ≡ Ok (Runs p)) e
+        (program_back format work p (subst HasYcsbKeys (sym e) own) (subst (λ (l : Load). l.fields ≤ 10) (sym e) few) (subst (λ (l : Load). is_valid_program l p ≡ true) (sym e) valid) f.0 f.1 room)

@@ -6,11 +6,11 @@ use Rattle.std.specs.List.{list_all}
 use Rattle.std.specs.Str.{bytes_eq}
 use Rattle.std.proofs.lemmas.Bool.{and_parts, and_from, leb-true, ne_eqb, false≢true, not_from_true, not_from_false, or_left, or_right, cases_Bool}
 use Rattle.std.proofs.lemmas.Slice.Eq.{bytes_eq-Decides}
-use Rattle.txn_program.specs.Valid.{is_plain}
 use Rattle.workload_text.specs.declared.faults.FaultKind.TheVariants.{OutOfRange}
+use Rattle.workload_text.specs.FileText.{signed}
 use Rattle.workload_text.specs.Numbers.{is_digit, value_of, has_sign, integer_of, is_integer, integer_in}
-use Rattle.workload_text.proofs.Decimals.{digits_of_decimal, is_number-decimal, value_of-decimal, plain_decimal}
-use Rattle.workload_text.proofs.FileRecords.{signed, if_false, if_true}
+use Rattle.workload_text.proofs.Decimals.{digits_of_decimal, is_number-decimal, value_of-decimal}
+use Rattle.workload_text.proofs.FileRecords.{if_false, if_true}
 
 -- a number of 64 bits
 abbrev pub IsSmall : ℤ → Type 0
@@ -61,7 +61,3 @@ integer_in-signed low high (negsuc n) small above below =
     read_back low high (negsuc n) (45 ∷ decimal (suc n))
     (or_right _ _ (and_from _ _ (low_below_0 low n above) (and_from _ _ (is_number-decimal (suc n) small) (not_from_false _ (not_0 n small)))))
     (ap (λ m. neg_ℤ (pos m)) (value_of-decimal (suc n) small)) above below
-
-pub plain_signed : (k : ℤ) → IsSmall k → list_all is_plain (signed k) ≡ true
-plain_signed (pos n) small = plain_decimal n small
-plain_signed (negsuc n) small = plain_decimal (suc n) small

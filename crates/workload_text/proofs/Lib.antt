@@ -2,7 +2,6 @@ pub mod Bound
 pub mod Decimals
 pub mod FileOf
 pub mod FileRecords
-pub mod FirstQuote
 pub mod InOrder
 pub mod Integers
 pub mod ItemEntries
@@ -10,17 +9,13 @@ pub mod ItemPuts
 pub mod LastNames
 pub mod LineByLine
 pub mod Onward
-pub mod Plain
 pub mod Puts
 pub mod ReadFields
-pub mod RecordText
 pub mod SortedItems
 pub mod StepByStep
 pub mod TpccItems
 pub mod TpccPrograms
 pub mod TpccRecords
 pub mod TpccRows
-pub mod TpccWritten
 pub mod ValidFiles
 pub mod ValidTpcc
-pub mod WrittenRecords

@@ -1,7 +1,6 @@
 -- What was read at a field keeps to its limits, and what a record may say.
-use Rattle.std.proofs.Common.{◌≡◌, ℕ, zero, suc, ◌≤◌, ◌<◌, ℤ, Bool, true, false, not, ◌&&◌, ◌==◌, List, [], ◌∷◌, length, take, drop, get_or, refl, ap, subst, Result, Ok, Err}
+use Rattle.std.proofs.Common.{◌≡◌, ℕ, ◌≤◌, ◌<◌, ℤ, Bool, true, false, not, ◌&&◌, ◌==◌, List, length, ap, subst, Result, Ok, Err}
 use Rattle.std.specs.Prelude.{nat_le, int_le}
-use Rattle.std.specs.List.{list_all}
 use Rattle.std.proofs.lemmas.Bool.{and_parts, and_from, leb-true, leb-false, le-leb}
 use Rattle.deneva_base.specs.Rows.{has_key}
 use Rattle.deneva_base.specs.declared.keys.Key.{Key}
@@ -10,7 +9,7 @@ use Rattle.deneva_base.specs.declared.rows.Keyed.{Keyed}
 use Rattle.records.specs.Records.{Record}
 use Rattle.tpcc_rules.specs.Items.{has_item}
 use Rattle.tpcc_rules.specs.declared.programs.Item.{Item}
-use Rattle.txn_program.specs.Valid.{is_plain, is_between, is_valid_program}
+use Rattle.txn_program.specs.Valid.{is_between, is_valid_program}
 use Rattle.txn_program.specs.declared.programs.Program.{Program}
 use Rattle.txn_program.specs.declared.programs.Workload.{Workload}
 use Rattle.workload_text.specs.declared.faults.FaultKind.{FaultKind}
@@ -22,7 +21,6 @@ use Rattle.workload_text.specs.Grammar.{end_from}
 use Rattle.workload_text.specs.Loading.{row_of, run_of}
 use Rattle.workload_text.specs.Numbers.{number_in, is_number, value_of, integer_in, is_integer, integer_of}
 use Rattle.workload_text.proofs.Bound.{passed, held, same_ok}
-use Rattle.workload_text.proofs.Plain.{is_plain_record}
 
 -- numbers
 
@@ -51,28 +49,10 @@ integer_read n low high field k h =
 
 -- texts
 
-pub short_text_read : (n most : ℕ) (bytes text : List ℕ) → list_all is_plain bytes ≡ true → short_text_at n most bytes ≡ Ok text
-    → (nat_le (length text) most ≡ true) × (list_all is_plain text ≡ true)
-short_text_read n most bytes text plain h =
+pub short_text_read : (n most : ℕ) (bytes text : List ℕ) → short_text_at n most bytes ≡ Ok text → nat_le (length text) most ≡ true
+short_text_read n most bytes text h =
     let a = held (nat_le (length bytes) most) _ _ text h in
-    subst (λ (t : List ℕ). (nat_le (length t) most ≡ true) × (list_all is_plain t ≡ true)) (same_ok {E = Flaw} _ _ a.1) (a.0, plain)
-
--- the plain fields among plain fields
-
-pub plain_drop : (n : ℕ) (r : Record) → is_plain_record r ≡ true → is_plain_record (drop n r) ≡ true
-plain_drop zero r h = h
-plain_drop (suc n) [] h = refl
-plain_drop (suc n) (f ∷ r) h = plain_drop n r (and_parts _ _ h).1
-
-pub plain_take : (n : ℕ) (r : Record) → is_plain_record r ≡ true → is_plain_record (take n r) ≡ true
-plain_take zero r h = refl
-plain_take (suc n) [] h = refl
-plain_take (suc n) (f ∷ r) h = and_from _ _ (and_parts _ _ h).0 (plain_take n r (and_parts _ _ h).1)
-
-pub plain_at : (n : ℕ) (r : Record) → is_plain_record r ≡ true → list_all is_plain (get_or r n []) ≡ true
-plain_at n [] h = refl
-plain_at zero (f ∷ r) h = (and_parts _ _ h).0
-plain_at (suc n) (f ∷ r) h = plain_at n r (and_parts _ _ h).1
+    subst (λ (t : List ℕ). nat_le (length t) most ≡ true) (same_ok {E = Flaw} _ _ a.1) a.0
 
 -- what a record may say where the records before it gave this workload and rows and items have to pass these tests
 abbrev pub Allowed : (Keyed → Bool) → (Item → Bool) → Workload → Said → Type 0

@@ -1,7 +1,7 @@
 -- An item put among items whose numbers rise.
-use Rattle.std.proofs.Common.{◌≡◌, ℕ, ◌+◌, ◌==◌, Bool, true, false, List, [], ◌∷◌, length, refl, sym, ◌∙◌, subst, arith}
+use Rattle.std.proofs.Common.{◌≡◌, ℕ, ◌+◌, ◌==◌, Bool, true, false, List, [], ◌∷◌, ◌++◌, length, refl, sym, ap, ◌∙◌, subst, arith, append-nil, append_assoc}
 use Rattle.std.specs.Prelude.{nat_lt}
-use Rattle.std.specs.List.{list_all}
+use Rattle.std.specs.List.{list_all, fold}
 use Rattle.std.specs.Ordering.{nat_cmp, match_ordering}
 use Rattle.std.specs.declared.cmp.Ordering.{Ordering}
 use Rattle.std.specs.declared.cmp.Ordering.TheVariants.{Less, Equal, Greater}
@@ -9,7 +9,7 @@ use Rattle.std.proofs.lemmas.Bool.{and_parts, and_from, or_parts, true≢false, 
 use Rattle.std.proofs.lemmas.Bool.Decides.{nat_tests}
 use Rattle.tpcc_rules.specs.Items.{has_item, numbers_rise, rise_after}
 use Rattle.tpcc_rules.specs.declared.programs.Item.{Item}
-use Rattle.workload_text.specs.SortedItems.{put_item}
+use Rattle.workload_text.specs.SortedItems.{put_item, by_number}
 
 -- what a comparison of two numbers says
 
@@ -70,3 +70,39 @@ pub length-put_item : (items : List Item) (i : Item) → has_item items i.number
 length-put_item [] i h = refl
 length-put_item (j ∷ items) i h =
     length_at (nat_cmp i.number j.number) i j items (put_item items i) refl (or_parts _ _ h).0 (length-put_item items i (or_parts _ _ h).1)
+
+-- items whose numbers rise are in the order of their numbers
+
+rise-tail : (i : Item) (items : List Item) → numbers_rise (i ∷ items) ≡ true → numbers_rise items ≡ true
+rise-tail i [] h = refl
+rise-tail i (j ∷ items) h = (and_parts _ _ h).1
+
+after_lower : (m n : ℕ) (items : List Item) → nat_lt m n ≡ true → rise_after n items ≡ true → rise_after m items ≡ true
+after_lower m n [] below h = refl
+after_lower m n (i ∷ items) below h = and_from _ _ (lt_trans m n i.number below (and_parts _ _ h).0) (and_parts _ _ h).1
+  where
+    lt_trans : (a b c : ℕ) → nat_lt a b ≡ true → nat_lt b c ≡ true → nat_lt a c ≡ true
+    lt_trans a b c p q = grind (arith, nat_tests)
+
+over : (n : ℕ) (items more : List Item) (i : Item) → rise_after n (items ++ i ∷ more) ≡ true → nat_cmp i.number n ≡ Greater
+over n [] more i h = above_below n i.number (and_parts _ _ h).0
+  where
+    above_below : (n m : ℕ) → nat_lt n m ≡ true → nat_cmp m n ≡ Greater
+    above_below n m h = grind (arith, nat_tests)
+over n (j ∷ items) more i h = over n items more i (after_lower n j.number (items ++ i ∷ more) (and_parts _ _ h).0 (and_parts _ _ h).1)
+
+put_last : (items more : List Item) (i : Item) → numbers_rise (items ++ i ∷ more) ≡ true → put_item items i ≡ items ++ i ∷ []
+put_last [] more i h = refl
+put_last (j ∷ items) more i h =
+    ap (λ o. match_ordering o (i ∷ j ∷ items) (i ∷ items) (j ∷ put_item items i)) (over j.number items more i h)
+    ∙ ap (λ (l : List Item). j ∷ l) (put_last items more i (rise-tail j (items ++ i ∷ more) h))
+
+put_all-last : (items more : List Item) → numbers_rise (items ++ more) ≡ true → fold put_item items more ≡ items ++ more
+put_all-last items [] h = sym (append-nil items)
+put_all-last items (i ∷ more) h =
+    let is : (items ++ i ∷ []) ++ more ≡ items ++ i ∷ more = append_assoc items (i ∷ []) more in
+    ap (λ (l : List Item). fold put_item l more) (put_last items more i h)
+    ∙ put_all-last (items ++ i ∷ []) more (subst (λ (l : List Item). numbers_rise l ≡ true) (sym is) h) ∙ is
+
+pub by_number-rising : (items : List Item) → numbers_rise items ≡ true → by_number items ≡ items
+by_number-rising items h = put_all-last [] items h

@@ -1,6 +1,6 @@
--- The records of items, and that they give them.
+-- The records of items give them.
 use Rattle.std.proofs.Common.{◌≡◌, ℕ, ◌+◌, ◌≤◌, ◌<◌, Bool, true, false, not, ◌&&◌, ◌==◌, List, [], ◌∷◌, ◌++◌, map, length, refl, sym, ap, ◌∙◌, arith, Ok}
-use Rattle.std.specs.Prelude.{ℤ, pos, int_le, if◌then◌else◌, nat_le, codes}
+use Rattle.std.specs.Prelude.{ℤ, pos, int_le, nat_le, codes}
 use Rattle.std.specs.Fmt.{decimal}
 use Rattle.std.specs.List.{list_all, fold}
 use Rattle.std.proofs.lemmas.Bool.{and_parts, and_from, true≢false, lt-leb, eq-eqb, not-true, not_from_false, or_from, or_parts, ne_eqb}
@@ -13,22 +13,14 @@ use Rattle.txn_program.specs.declared.programs.Workload.{Workload}
 use Rattle.workload_text.specs.declared.heads.Head.TheVariants as heads
 use Rattle.workload_text.specs.declared.said.Said.TheVariants.{Sells}
 use Rattle.workload_text.specs.Fields.{number_at, integer_at, short_text_at}
-use Rattle.workload_text.specs.Grammar.{said_by, with_item, read_after, read_on}
+use Rattle.workload_text.specs.FileText.{signed, item_data, item_record}
+use Rattle.workload_text.specs.Grammar.{said_by, with_item, at_end, read_after, read_on}
 use Rattle.workload_text.specs.SortedItems.{put_item}
 use Rattle.workload_text.specs.Tpcc.{item_from, sold_by}
-use Rattle.workload_text.proofs.FileRecords.{signed, then_ok, if_false}
+use Rattle.workload_text.proofs.FileRecords.{then_ok, if_false}
 use Rattle.workload_text.proofs.Integers.{IsSmall, small_between}
 use Rattle.workload_text.proofs.ItemPuts.{length-put_item, has_item-put_item}
 use Rattle.workload_text.proofs.TpccRows.{ranged_back, integer_back, before_back}
-
--- the record of an item
-
--- data that say whether the item is an original
-abbrev pub item_data : Bool → List ℕ
-item_data original = if original then codes "ORIGINAL" else []
-
-abbrev pub item_record : Item → Record
-item_record item = codes "item" ∷ decimal item.number ∷ signed item.price ∷ item_data item.original ∷ []
 
 original_back : (original : Bool) → includes (codes "ORIGINAL") (item_data original) ≡ original
 original_back true = refl
@@ -92,6 +84,6 @@ items_back n (i ∷ items) more work out none valid apart new room go =
     let free : has_item work.load.items i.number ≡ false = not-true _ (and_parts _ _ new).0 in
     let long : length (put_item work.load.items i) ≡ length work.load.items + 1 = length-put_item work.load.items i free in
     let left : length (put_item work.load.items i) + length items ≤ 100000 = omega arith in
-    ap (read_after n work (map item_record items ++ more) (read_on heads.Tpcc (n + 1) (map item_record items ++ more))) (item_back work i none (and_parts _ _ valid).0 free less)
+    ap (read_after n work (at_end work (n + 1) (map item_record items ++ more)) (read_on heads.Tpcc (n + 1) (map item_record items ++ more))) (item_back work i none (and_parts _ _ valid).0 free less)
     ∙ items_back (n + 1) items more (with_item work i) out none (and_parts _ _ valid).1 (and_parts _ _ apart).1
     (still_unsold work.load.items i items (not-true _ (and_parts _ _ apart).0) (and_parts _ _ new).1) left go

@@ -25,10 +25,11 @@ use Rattle.workload_text.specs.declared.payments.Naming.TheVariants.{ById}
 use Rattle.workload_text.specs.declared.payments.Places.{Places}
 use Rattle.workload_text.specs.declared.said.Said.TheVariants.{Runs}
 use Rattle.workload_text.specs.Fields.{field_at, number_at, integer_at}
+use Rattle.workload_text.specs.FileText.{signed, payment_record, line_fields, order_record, program_record}
 use Rattle.workload_text.specs.Grammar.{said_by}
 use Rattle.workload_text.specs.Loading.{run_of}
 use Rattle.workload_text.specs.Tpcc.{warehouse_at, item_at, known_at, place_known, places_from, payer_from, payer_of, line_at, lines_from, ordered_from, stock_known, stocks_known}
-use Rattle.workload_text.proofs.FileRecords.{signed, payment_record, line_fields, order_record, program_record, then_ok, if_false, if_true}
+use Rattle.workload_text.proofs.FileRecords.{then_ok, if_false, if_true}
 use Rattle.workload_text.proofs.Integers.{IsSmall, small_between}
 use Rattle.workload_text.proofs.TpccRows.{ranged_back, integer_back, at_drop, field_back}
 

@@ -1,6 +1,6 @@
--- The records of the rows of TPC-C, and that they give them.
-use Rattle.std.proofs.Common.{◌≡◌, ℕ, zero, suc, ◌+◌, ◌-◌, ◌^◌, ◌≤◌, ◌<◌, Bool, true, false, not, ◌&&◌, ◌==◌, List, [], ◌∷◌, ◌++◌, map, length, drop, refl, sym, ap, ◌∙◌, arith, Result, Ok, inl, inr}
-use Rattle.std.specs.Prelude.{ℤ, pos, negsuc, int_le, if◌then◌else◌, nat_le, codes, slice_index_or}
+-- The records of the rows of TPC-C give them.
+use Rattle.std.proofs.Common.{◌≡◌, ℕ, zero, suc, ◌+◌, ◌-◌, ◌^◌, ◌≤◌, ◌<◌, Bool, true, false, not, ◌&&◌, ◌==◌, List, [], ◌∷◌, map, length, drop, refl, sym, ap, ◌∙◌, arith, Result, Ok, inl, inr}
+use Rattle.std.specs.Prelude.{ℤ, pos, negsuc, int_le, nat_le, slice_index_or}
 use Rattle.std.specs.Fmt.{decimal}
 use Rattle.std.specs.List.{list_all}
 use Rattle.std.proofs.lemmas.Bool.{and_parts, and_from, false≢true, leb-true, lt-leb, eqb-true, eq-eqb, not_from_true, cases_Bool}
@@ -15,7 +15,7 @@ use Rattle.tpcc_rules.specs.Columns.{fits, fits_all, is_credit}
 use Rattle.tpcc_rules.specs.Tables.{is_table, is_loaded_row, loaded_columns}
 use Rattle.tpcc_rules.specs.declared.columns.Column.{Column}
 use Rattle.tpcc_rules.specs.declared.columns.Column.TheVariants.{Between, UpTo, Credit, AnyNumber, AnyText}
-use Rattle.txn_program.specs.Valid.{is_plain_cell, is_between, is_warehouse, is_district, is_customer, is_item, is_tpcc_key, is_tpcc_row}
+use Rattle.txn_program.specs.Valid.{is_between, is_warehouse, is_district, is_customer, is_item, is_tpcc_key, is_tpcc_row}
 use Rattle.txn_program.specs.declared.programs.Workload.{Workload}
 use Rattle.workload_text.specs.declared.faults.Flaw.{Flaw}
 use Rattle.workload_text.specs.declared.heads.Head.TheVariants as heads
@@ -24,35 +24,12 @@ use Rattle.workload_text.specs.declared.said.Said.TheVariants.{Loads}
 use Rattle.workload_text.specs.declared.tables.Table.{Table}
 use Rattle.workload_text.specs.declared.tables.Table.TheVariants.{Warehouse, District, Customer, Stock}
 use Rattle.workload_text.specs.Fields.{field_at, placed_at, number_at, integer_at, short_text_at}
+use Rattle.workload_text.specs.FileText.{signed, cell_text, table_at, table_record, tpcc_row_record}
 use Rattle.workload_text.specs.Gives.{◌>>=◌}
 use Rattle.workload_text.specs.Grammar.{said_by}
 use Rattle.workload_text.specs.Tpcc.{width_of, columns_of, key_from, cell_at, cells_from, row_from, before_runs}
-use Rattle.workload_text.proofs.FileRecords.{signed, cell_text, then_ok, if_false, if_true, number_back}
+use Rattle.workload_text.proofs.FileRecords.{then_ok, if_false, if_true, number_back}
 use Rattle.workload_text.proofs.Integers.{IsSmall, small_between, integer_in-signed}
-
--- the record of a row: the word of its table, the numbers of its key, and its cells
-
-abbrev pub table_word : Table → List ℕ
-table_word Warehouse = codes "warehouse"
-table_word District = codes "district"
-table_word Customer = codes "customer"
-table_word Stock = codes "stock"
-
-abbrev pub key_fields : Table → Key → Record
-key_fields Warehouse key = decimal key.a ∷ []
-key_fields District key = decimal key.a ∷ decimal key.b ∷ []
-key_fields Customer key = decimal key.a ∷ decimal key.b ∷ decimal key.c ∷ []
-key_fields Stock key = decimal key.a ∷ decimal key.b ∷ []
-
--- the table of a key
-abbrev pub table_at : Key → Table
-table_at key = if key.table == 1 then Warehouse else if key.table == 2 then District else if key.table == 3 then Customer else Stock
-
-abbrev pub table_record : Table → Keyed → Record
-table_record table r = table_word table ∷ (key_fields table r.key ++ map cell_text r.row)
-
-abbrev pub tpcc_row_record : Keyed → Record
-tpcc_row_record r = table_record (table_at r.key) r
 
 -- numbers
 
@@ -140,8 +117,7 @@ IsRowOf table r = (is_key_of table r.key ≡ true) × (fits_all (columns_of tabl
 
 pub own_table : (r : Keyed) → is_tpcc_row r ≡ true → IsRowOf (table_at r.key) r
 own_table r h =
-    let v = and_parts (is_tpcc_key r.key && is_loaded_row r.key r.row) (list_all is_plain_cell r.row) h in
-    let w = and_parts (is_tpcc_key r.key) (is_loaded_row r.key r.row) v.0 in
+    let w = and_parts (is_tpcc_key r.key) (is_loaded_row r.key r.row) h in
     let key = and_parts (is_warehouse r.key.a) _ w.0 in
     let row = (and_parts (is_table r.key.table) (fits_all (loaded_columns r.key.table) r.row) w.1).1 in
     elim (cases_Bool (r.key.table == 1)) [

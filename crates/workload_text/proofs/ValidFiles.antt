@@ -1,5 +1,5 @@
 -- What the grammar reads is valid.
-use Rattle.std.proofs.Common.{◌≡◌, ℕ, zero, suc, ◌+◌, ◌-◌, ◌≤◌, ◌<◌, Bool, true, false, not, ◌&&◌, ◌==◌, List, [], ◌∷◌, map, length, drop, refl, sym, ap, ◌∙◌, subst, arith, Option, Some, None, Result, Ok, Err, inl, inr}
+use Rattle.std.proofs.Common.{◌≡◌, ℕ, zero, suc, ◌+◌, ◌-◌, ◌≤◌, ◌<◌, Bool, true, false, not, ◌&&◌, ◌==◌, List, [], ◌∷◌, map, length, take, drop, refl, sym, ap, ◌∙◌, subst, arith, Option, Some, None, Result, Ok, Err, inl, inr}
 use Rattle.std.specs.Prelude.{if◌then◌else◌, nat_lt, codes}
 use Rattle.std.specs.List.{list_all, list_any}
 use Rattle.std.specs.Str.{bytes_eq}
@@ -15,7 +15,7 @@ use Rattle.tpcc_rules.specs.Items.{numbers_rise}
 use Rattle.tpcc_rules.specs.declared.programs.Item.{Item}
 use Rattle.tpcc_rules.proofs.ItemNumbers.{own_from_rising}
 use Rattle.txn_program.specs.Transactions.{ycsb_key}
-use Rattle.txn_program.specs.Valid.{is_plain, is_text, is_text_cell, is_row, is_valid_row, is_tpcc_row, is_valid_item, are_distinct, are_valid_rows, is_load_of, is_valid_act, is_valid_step, is_valid_program, IsValid}
+use Rattle.txn_program.specs.Valid.{is_text, is_text_cell, is_row, is_valid_row, is_tpcc_row, is_valid_item, are_distinct, are_valid_rows, is_load_of, is_valid_act, is_valid_step, is_valid_program, IsValid}
 use Rattle.txn_program.specs.declared.programs.YcsbAct.{YcsbAct}
 use Rattle.txn_program.specs.declared.programs.YcsbAct.TheVariants.{Read, Update, Put}
 use Rattle.txn_program.specs.declared.programs.YcsbPut.{YcsbPut}
@@ -41,47 +41,47 @@ use Rattle.workload_text.specs.Files.{IsRising}
 use Rattle.workload_text.specs.Gives.{◌>>=◌}
 use Rattle.records.specs.Records.{Record, records_of}
 use Rattle.workload_text.specs.Fields.{field_at, number_at, text_at, texts_from}
-use Rattle.workload_text.specs.Grammar.{format_of, ycsb_head, kind_of_format, head_of_format, head_from, kind_of, fields_of_head, said_of_ycsb, said_by, with_row, with_item, with_program, at_end, read_after, read_on, empty, read_from_head, workload_from, quote_from, unless_quoted, workload_of}
+use Rattle.workload_text.specs.Grammar.{format_of, ycsb_head, kind_of_format, head_of_format, head_from, kind_of, fields_of_head, said_of_ycsb, said_by, with_row, with_item, with_program, at_end, read_after, read_on, empty, read_from_head, workload_from, workload_of, Prefix, prefix_from}
 use Rattle.workload_text.specs.SortedItems.{put_item}
 use Rattle.workload_text.specs.Ycsb.{row_from, width, width_of_put, put_from, act_from, step_from, word_at, args_of, steps_from, first_unknown, first_repeated, none_at, txn_of}
 use Rattle.workload_text.proofs.Bound.{bound, passed, held, either_gave, same_ok}
-use Rattle.workload_text.proofs.Plain.{is_plain_record, records_are_plain}
+use Rattle.workload_text.proofs.Onward.{taken_from}
 use Rattle.workload_text.proofs.Puts.{list_all-put, keys_rise-put, length-put}
-use Rattle.workload_text.proofs.ReadFields.{number_between, short_text_read, plain_drop, plain_take, plain_at, Allowed, row_allowed, run_allowed, end_allowed}
+use Rattle.workload_text.proofs.ReadFields.{number_between, short_text_read, Allowed, row_allowed, run_allowed, end_allowed}
 use Rattle.workload_text.proofs.SortedItems.{list_all-put_item, numbers_rise-put_item, length-put_item}
 use Rattle.workload_text.proofs.ValidTpcc.{tpcc_allowed}
 
 -- texts
 
-text_read : (n : ℕ) (bytes text : List ℕ) → list_all is_plain bytes ≡ true → text_at n bytes ≡ Ok text → is_text text ≡ true
-text_read n bytes text plain h = let read = short_text_read n 100 bytes text plain h in and_from _ _ read.0 read.1
+text_read : (n : ℕ) (bytes text : List ℕ) → text_at n bytes ≡ Ok text → is_text text ≡ true
+text_read n bytes text h = short_text_read n 100 bytes text h
 
 -- so many cells, each a text
 abbrev pub AreTexts : ℕ → List Cell → Type 0
 AreTexts n cells = (length cells ≡ n) × (list_all is_text_cell cells ≡ true)
 
-texts_read : (n : ℕ) (fields : List (List ℕ)) (cells : List Cell) → is_plain_record fields ≡ true → texts_from n fields ≡ Ok cells → AreTexts (length fields) cells
-texts_read n [] cells plain h = subst (AreTexts 0) (same_ok {E = Flaw} _ _ h) (refl, refl)
-texts_read n (bytes ∷ fields) cells plain h =
+texts_read : (n : ℕ) (fields : List (List ℕ)) (cells : List Cell) → texts_from n fields ≡ Ok cells → AreTexts (length fields) cells
+texts_read n [] cells h = subst (AreTexts 0) (same_ok {E = Flaw} _ _ h) (refl, refl)
+texts_read n (bytes ∷ fields) cells h =
     let a = bound (text_at n bytes) _ cells h in
     let b = bound (texts_from (n + 1) fields) _ cells a.2 in
-    let more = texts_read (n + 1) fields b.0 (and_parts _ _ plain).1 b.1 in
-    subst (AreTexts (length (bytes ∷ fields))) (same_ok {E = Flaw} _ _ b.2) (ap suc more.0, and_from _ _ (text_read n bytes a.0 (and_parts _ _ plain).0 a.1) more.1)
+    let more = texts_read (n + 1) fields b.0 b.1 in
+    subst (AreTexts (length (bytes ∷ fields))) (same_ok {E = Flaw} _ _ b.2) (ap suc more.0, and_from _ _ (text_read n bytes a.0 a.1) more.1)
 
-row_read : (n fields : ℕ) (texts : List (List ℕ)) (cells : List Cell) → is_plain_record texts ≡ true → length texts ≡ fields → texts_from n texts ≡ Ok cells → is_row fields cells ≡ true
-row_read n fields texts cells plain long h =
-    let a = texts_read n texts cells plain h in
+row_read : (n fields : ℕ) (texts : List (List ℕ)) (cells : List Cell) → length texts ≡ fields → texts_from n texts ≡ Ok cells → is_row fields cells ≡ true
+row_read n fields texts cells long h =
+    let a = texts_read n texts cells h in
     and_from _ _ (eq-eqb _ _ (a.0 ∙ long)) a.1
 
 -- steps
 
-put_read : (head : YcsbHead) (n : ℕ) (more : Record) (put : YcsbPut) → 1 ≤ head.fields → is_plain_record more ≡ true → put_from head n more ≡ Ok put → is_valid_act head.fields (Update put) ≡ true
-put_read head n more put some plain h =
+put_read : (head : YcsbHead) (n : ℕ) (more : Record) (put : YcsbPut) → 1 ≤ head.fields → put_from head n more ≡ Ok put → is_valid_act head.fields (Update put) ≡ true
+put_read head n more put some h =
     let a = bound (number_at (n + 2) 0 (head.fields - 1) (field_at 1 more)) _ put h in
     let b = bound (text_at (n + 3) (field_at 2 more)) _ put a.2 in
     let range = number_between (n + 2) 0 (head.fields - 1) (field_at 1 more) a.0 a.1 in
     subst (λ (p : YcsbPut). is_valid_act head.fields (Update p) ≡ true) (same_ok {E = Flaw} _ _ b.2)
-    (and_from _ _ (lt-ltb a.0 head.fields (omega (arith, range))) (text_read (n + 3) (field_at 2 more) b.0 (plain_at 1 more plain) b.1))
+    (and_from _ _ (lt-ltb a.0 head.fields (omega (arith, range))) (text_read (n + 3) (field_at 2 more) b.0 b.1))
 
 -- the fields after KEY of a step that is no `r` and no `u` are a row
 row_width : (format : Format) (fields w : ℕ) (p : Bool) → (if p then width_of_put format fields else None) ≡ Some w → w ≡ 1 + fields
@@ -89,53 +89,53 @@ row_width One fields w true h = absurd (cc)
 row_width Two fields w true h = cc
 row_width format fields w false h = absurd (cc)
 
-act_by : (head : YcsbHead) (n w : ℕ) (args : Record) (act : YcsbAct) (r u p : Bool) → 1 ≤ head.fields → is_plain_record args ≡ true → length args ≡ w
+act_by : (head : YcsbHead) (n w : ℕ) (args : Record) (act : YcsbAct) (r u p : Bool) → 1 ≤ head.fields → length args ≡ w
     → (if r then Some 1 else if u then Some 3 else if p then width_of_put head.format head.fields else None) ≡ Some w
     → (if r then Ok Read else if u then (put_from head n (drop 1 args) >>= λ put. Ok (Update put)) else (texts_from (n + 2) (drop 1 args) >>= λ cells. Ok (Put cells))) ≡ Ok act
     → is_valid_act head.fields act ≡ true
-act_by head n w args act true u p some plain long wide h = subst (λ (a : YcsbAct). is_valid_act head.fields a ≡ true) (same_ok {E = Flaw} _ _ h) refl
-act_by head n w args act false true p some plain long wide h =
+act_by head n w args act true u p some long wide h = subst (λ (a : YcsbAct). is_valid_act head.fields a ≡ true) (same_ok {E = Flaw} _ _ h) refl
+act_by head n w args act false true p some long wide h =
     let a = bound (put_from head n (drop 1 args)) _ act h in
-    subst (λ (x : YcsbAct). is_valid_act head.fields x ≡ true) (same_ok {E = Flaw} _ _ a.2) (put_read head n (drop 1 args) a.0 some (plain_drop 1 args plain) a.1)
-act_by head n w args act false false p some plain long wide h =
+    subst (λ (x : YcsbAct). is_valid_act head.fields x ≡ true) (same_ok {E = Flaw} _ _ a.2) (put_read head n (drop 1 args) a.0 some a.1)
+act_by head n w args act false false p some long wide h =
     let a = bound (texts_from (n + 2) (drop 1 args)) _ act h in
     let e : w ≡ 1 + head.fields = row_width head.format head.fields w p wide in
     subst (λ (x : YcsbAct). is_valid_act head.fields x ≡ true) (same_ok {E = Flaw} _ _ a.2)
-    (row_read (n + 2) head.fields (drop 1 args) a.0 (plain_drop 1 args plain) (omega (arith, length-drop 1 args)) a.1)
+    (row_read (n + 2) head.fields (drop 1 args) a.0 (omega (arith, length-drop 1 args)) a.1)
 
-step_read : (head : YcsbHead) (n w : ℕ) (word : List ℕ) (args : Record) (step : Placed) → 1 ≤ head.fields → is_plain_record args ≡ true → length args ≡ w
+step_read : (head : YcsbHead) (n w : ℕ) (word : List ℕ) (args : Record) (step : Placed) → 1 ≤ head.fields → length args ≡ w
     → width head word ≡ Some w → step_from head n word args ≡ Ok step → is_valid_act head.fields step.step.act ≡ true
-step_read head n w word args step some plain long wide h =
+step_read head n w word args step some long wide h =
     let a = bound (number_at (n + 1) 0 4294967295 (field_at 1 args)) _ step h in
     let b = bound (act_from head n word (drop 1 args)) _ step a.2 in
     subst (λ (s : Placed). is_valid_act head.fields s.step.act ≡ true) (same_ok {E = Flaw} _ _ b.2)
-    (act_by head n w args b.0 (bytes_eq word (codes "r")) (bytes_eq word (codes "u")) (bytes_eq word (codes "p")) some plain long wide b.1)
+    (act_by head n w args b.0 (bytes_eq word (codes "r")) (bytes_eq word (codes "u")) (bytes_eq word (codes "p")) some long wide b.1)
 
 word_read : (n : ℕ) (o : Option ℕ) (w : ℕ) → word_at n o ≡ Ok w → o ≡ Some w
 word_read n None w h = absurd (cc)
 word_read n (Some v) w h = ap Some (same_ok {E = Flaw} v w h)
 
-args_read : (w : ℕ) (more args : Record) → is_plain_record more ≡ true → args_of w more ≡ Ok args → (is_plain_record args ≡ true) × (length args ≡ w)
-args_read w more args plain h =
+args_read : (w : ℕ) (more args : Record) → args_of w more ≡ Ok args → length args ≡ w
+args_read w more args h =
     let a = passed (nat_lt (length more) w) _ _ args h in
-    subst (λ (r : Record). (is_plain_record r ≡ true) × (length r ≡ w)) (same_ok {E = Flaw} _ _ a.1) (plain_take w more plain, length-take-le w more (ltb-false _ _ a.0))
+    subst (λ (r : Record). length r ≡ w) (same_ok {E = Flaw} _ _ a.1) (length-take-le w more (ltb-false _ _ a.0))
 
 abbrev pub acts : ℕ → List Placed → Bool
 acts fields steps = list_all (λ p. is_valid_act fields p.step.act) steps
 
-steps_read : (head : YcsbHead) (most n : ℕ) (fields : Record) (steps : List Placed) → 1 ≤ head.fields → is_plain_record fields ≡ true → steps_from head most n fields ≡ Ok steps → acts head.fields steps ≡ true
-steps_read head zero n [] steps some plain h = subst (λ (l : List Placed). acts head.fields l ≡ true) (same_ok {E = Flaw} _ _ h) refl
-steps_read head zero n (word ∷ more) steps some plain h = subst (λ (l : List Placed). acts head.fields l ≡ true) (same_ok {E = Flaw} _ _ h) refl
-steps_read head (suc m) n [] steps some plain h = subst (λ (l : List Placed). acts head.fields l ≡ true) (same_ok {E = Flaw} _ _ h) refl
-steps_read head (suc m) n (word ∷ more) steps some plain h =
+steps_read : (head : YcsbHead) (most n : ℕ) (fields : Record) (steps : List Placed) → 1 ≤ head.fields → steps_from head most n fields ≡ Ok steps → acts head.fields steps ≡ true
+steps_read head zero n [] steps some h = subst (λ (l : List Placed). acts head.fields l ≡ true) (same_ok {E = Flaw} _ _ h) refl
+steps_read head zero n (word ∷ more) steps some h = subst (λ (l : List Placed). acts head.fields l ≡ true) (same_ok {E = Flaw} _ _ h) refl
+steps_read head (suc m) n [] steps some h = subst (λ (l : List Placed). acts head.fields l ≡ true) (same_ok {E = Flaw} _ _ h) refl
+steps_read head (suc m) n (word ∷ more) steps some h =
     let a = bound (word_at n (width head word)) _ steps h in
     let b = bound (args_of a.0 more) _ steps a.2 in
     let c = bound (step_from head n word b.0) _ steps b.2 in
     let d = bound (steps_from head m (n + 1 + a.0) (drop a.0 more)) _ steps c.2 in
-    let args = args_read a.0 more b.0 (and_parts _ _ plain).1 b.1 in
+    let args = args_read a.0 more b.0 b.1 in
     subst (λ (l : List Placed). acts head.fields l ≡ true) (same_ok {E = Flaw} _ _ d.2)
-    (and_from _ _ (step_read head n a.0 word b.0 c.0 some args.0 args.1 (word_read n (width head word) a.0 a.1) c.1)
-    (steps_read head m (n + 1 + a.0) (drop a.0 more) d.0 some (plain_drop a.0 more (and_parts _ _ plain).1) d.1))
+    (and_from _ _ (step_read head n a.0 word b.0 c.0 some args (word_read n (width head word) a.0 a.1) c.1)
+    (steps_read head m (n + 1 + a.0) (drop a.0 more) d.0 some d.1))
 
 no_flaw : (k : FaultKind) (o : Option ℕ) (u : Unit {0}) → none_at k o ≡ Ok u → o ≡ None
 no_flaw k None u h = refl
@@ -205,8 +205,8 @@ txn_allowed work steps s fit h =
     (steps_valid work.load steps (no_flaw UnknownKey (first_unknown work.load.rows steps) b.0 b.1) fit))
     (keys_apart [] steps (no_flaw Repeated (first_repeated [] steps) c.0 c.1)).0) d.1
 
-texts_allowed : (head : YcsbHead) (work : Workload) (r : Record) (s : Said) → work.load.fields ≡ head.fields → is_plain_record r ≡ true → row_from head work r ≡ Ok s → AllowedYcsb work s
-texts_allowed head work r s same plain h =
+texts_allowed : (head : YcsbHead) (work : Workload) (r : Record) (s : Said) → work.load.fields ≡ head.fields → row_from head work r ≡ Ok s → AllowedYcsb work s
+texts_allowed head work r s same h =
     let a = passed (not (length work.programs == 0)) _ _ s h in
     let b = passed (not (length r == 2 + head.fields)) _ _ s a.1 in
     let c = bound (number_at 2 0 4294967295 (field_at 2 r)) _ s b.1 in
@@ -214,14 +214,14 @@ texts_allowed head work r s same plain h =
     let long : length r ≡ 2 + head.fields = eqb-true _ _ (not-false _ b.0) in
     let rest : length (drop 2 r) ≡ work.load.fields = omega (arith, length-drop 2 r, long, same) in
     row_allowed (is_valid_row work.load.fields) (λ (i : Item). false) work 2 (ycsb_key c.0) d.0 s (eqb-true _ _ (not-false _ a.0))
-    (row_read 3 work.load.fields (drop 2 r) d.0 (plain_drop 2 r plain) rest d.1) d.2
+    (row_read 3 work.load.fields (drop 2 r) d.0 rest d.1) d.2
 
-ycsb_allowed : (head : YcsbHead) (work : Workload) (r : Record) (s : Said) → 1 ≤ head.fields → work.load.fields ≡ head.fields → is_plain_record r ≡ true → said_of_ycsb head work r ≡ Ok s → AllowedYcsb work s
-ycsb_allowed head work r s some same plain h =
-    either_gave (AllowedYcsb work s) (bytes_eq (field_at 1 r) (codes "row")) _ _ s h (texts_allowed head work r s same plain) (λ g.
+ycsb_allowed : (head : YcsbHead) (work : Workload) (r : Record) (s : Said) → 1 ≤ head.fields → work.load.fields ≡ head.fields → said_of_ycsb head work r ≡ Ok s → AllowedYcsb work s
+ycsb_allowed head work r s some same h =
+    either_gave (AllowedYcsb work s) (bytes_eq (field_at 1 r) (codes "row")) _ _ s h (texts_allowed head work r s same) (λ g.
     either_gave (AllowedYcsb work s) (bytes_eq (field_at 1 r) (codes "txn")) _ _ s g (λ e.
     let a = bound (steps_from head (length r) 2 (drop 1 r)) _ s e in
-    txn_allowed work a.0 s (subst (λ (n : ℕ). acts n a.0 ≡ true) (sym same) (steps_read head (length r) 2 (drop 1 r) a.0 some (plain_drop 1 r plain) a.1)) a.2) (λ e.
+    txn_allowed work a.0 s (subst (λ (n : ℕ). acts n a.0 ≡ true) (sym same) (steps_read head (length r) 2 (drop 1 r) a.0 some a.1)) a.2) (λ e.
     end_allowed (is_valid_row work.load.fields) (λ (i : Item). false) work r s (held (bytes_eq (field_at 1 r) (codes "end")) _ _ s e).1))
 
 -- the tests of the rows and items of a file, by its head
@@ -331,28 +331,28 @@ some_fields head work kept =
     let bounds = and_parts _ _ (and_parts _ _ (and_parts _ _ kept.loaded).0).0 in
     subst (λ (n : ℕ). 1 ≤ n) kept.fields (leb-true _ _ bounds.0)
 
-said_allowed : (head : Head) (work : Workload) (r : Record) (s : Said) → Kept head work → is_plain_record r ≡ true → said_by head work r ≡ Ok s → Says head work s
-said_allowed (Ycsb head) work r s kept plain h = ycsb_allowed head work r s (some_fields head work kept) kept.fields plain h
-said_allowed Tpcc work r s kept plain h = tpcc_allowed work s r plain h
+said_allowed : (head : Head) (work : Workload) (r : Record) (s : Said) → Kept head work → said_by head work r ≡ Ok s → Says head work s
+said_allowed (Ycsb head) work r s kept h = ycsb_allowed head work r s (some_fields head work kept) kept.fields h
+said_allowed Tpcc work r s kept h = tpcc_allowed work s r h
 
 ended : (work out : Workload) (n : ℕ) (rs : List Record) → at_end work n rs ≡ Ok out → work ≡ out
 ended work out n [] h = same_ok {E = InputFault} _ _ h
 ended work out n (r ∷ rs) h = absurd (cc)
 
 after_kept : (head : Head) (n : ℕ) (work out : Workload) (rs : List Record) (rest : Workload → Result Workload InputFault) (s : Result Said Flaw) → Kept head work
-    → ((x : Said) → s ≡ Ok x → Says head work x) → ((w : Workload) → Kept head w → rest w ≡ Ok out → Kept head out) → read_after n work rs rest s ≡ Ok out → Kept head out
+    → ((x : Said) → s ≡ Ok x → Says head work x) → ((w : Workload) → Kept head w → rest w ≡ Ok out → Kept head out) → read_after n work (at_end work (n + 1) rs) rest s ≡ Ok out → Kept head out
 after_kept head n work out rs rest (Err f) kept says go h = absurd (cc)
 after_kept head n work out rs rest (Ok (Loads r)) kept says go h = go (with_row work r) (with_row_kept head work r kept (says (Loads r) refl)) h
 after_kept head n work out rs rest (Ok (Sells i)) kept says go h = go (with_item work i) (with_item_kept head work i kept (says (Sells i) refl)) h
 after_kept head n work out rs rest (Ok (Runs p)) kept says go h = go (with_program work p) (with_program_kept head work p kept (says (Runs p) refl)) h
 after_kept head n work out rs rest (Ok Ends) kept says go h = subst (Kept head) (ended work out (n + 1) rs h) kept
 
-read_kept : (head : Head) (n : ℕ) (rs : List Record) (work out : Workload) → list_all is_plain_record rs ≡ true → Kept head work → read_on head n rs work ≡ Ok out → Kept head out
-read_kept head n [] work out plain kept h = absurd (cc)
-read_kept head n (r ∷ rs) work out plain kept h =
+read_kept : (head : Head) (n : ℕ) (rs : List Record) (work out : Workload) → Kept head work → read_on head n rs work ≡ Ok out → Kept head out
+read_kept head n [] work out kept h = absurd (cc)
+read_kept head n (r ∷ rs) work out kept h =
     after_kept head n work out rs (read_on head (n + 1) rs) (said_by head work r) kept
-    (λ x e. said_allowed head work r x kept (and_parts _ _ plain).0 e)
-    (λ w k e. read_kept head (n + 1) rs w out (and_parts _ _ plain).1 k e) h
+    (λ x e. said_allowed head work r x kept e)
+    (λ w k e. read_kept head (n + 1) rs w out k e) h
 
 -- a head of YCSB says 1 to 10 fields
 
@@ -397,29 +397,33 @@ empty_kept Tpcc h = record {
   sold = refl;
 }
 
-from_head : (h : Result Head Flaw) (rs : List Record) (out : Workload) → ((head : Head) → h ≡ Ok head → HasFields head) → list_all is_plain_record rs ≡ true
-    → read_from_head h rs ≡ Ok out → (head : Head) × Kept head out
-from_head (Err f) rs out known plain h = absurd (cc)
-from_head (Ok head) rs out known plain h = (head, read_kept head 2 rs (empty head) out plain (empty_kept head (known head refl)) h)
+from_head : (h : Result Head Flaw) (rs : List Record) (out : Workload) → ((head : Head) → h ≡ Ok head → HasFields head) → read_from_head h rs ≡ Ok out → (head : Head) × Kept head out
+from_head (Err f) rs out known h = absurd (cc)
+from_head (Ok head) rs out known h = (head, read_kept head 2 rs (empty head) out (empty_kept head (known head refl)) h)
 
-from_records : (rs : List Record) (out : Workload) → list_all is_plain_record rs ≡ true → workload_from rs ≡ Ok out → (head : Head) × Kept head out
-from_records [] out plain h = absurd (cc)
-from_records (r ∷ rs) out plain h =
-    from_head (head_from r) rs out (λ head e. head_by r (format_of (field_at 2 r)) head (held (bytes_eq (field_at 1 r) (codes "deneva")) _ _ head e).1) (and_parts _ _ plain).1 h
+from_records : (rs : List Record) (out : Workload) → workload_from rs ≡ Ok out → (head : Head) × Kept head out
+from_records [] out h = absurd (cc)
+from_records (r ∷ rs) out h =
+    from_head (head_from r) rs out (λ head e. head_by r (format_of (field_at 2 r)) head (held (bytes_eq (field_at 1 r) (codes "deneva")) _ _ head e).1) h
 
-unquoted : (o : Option InputFault) (read : Result Workload InputFault) (out : Workload) → unless_quoted o read ≡ Ok out → (o ≡ None) × (read ≡ Ok out)
-unquoted None read out h = (refl, h)
-unquoted (Some f) read out h = absurd (cc)
+-- the workload of the records of a file is valid, and its rows rise
 
-from_bytes : (bytes : List ℕ) (work : Workload) → workload_of bytes ≡ Ok work → (head : Head) × Kept head work
-from_bytes bytes work h =
-    let a = unquoted (quote_from 1 (records_of bytes)) (workload_from (records_of bytes)) work h in
-    from_records (records_of bytes) work (records_are_plain bytes a.0) a.1
+pub records_valid : (rs : List Record) (work : Workload) → workload_from rs ≡ Ok work → IsValid work
+records_valid rs work h = let read = from_records rs work h in kept_valid read.0 work read.1
 
--- the workload of a file is valid
+pub records_rising : (rs : List Record) (work : Workload) → workload_from rs ≡ Ok work → IsRising work.load.rows
+records_rising rs work h = (from_records rs work h).1.rising
+
 pub reads_valid : (bytes : List ℕ) (work : Workload) → workload_of bytes ≡ Ok work → IsValid work
-reads_valid bytes work h = let read = from_bytes bytes work h in kept_valid read.0 work read.1
+reads_valid bytes work h = records_valid (records_of bytes) work h
 
--- its rows rise
 pub reads_rising : (bytes : List ℕ) (work : Workload) → workload_of bytes ≡ Ok work → IsRising work.load.rows
-reads_rising bytes work h = (from_bytes bytes work h).1.rising
+reads_rising bytes work h = records_rising (records_of bytes) work h
+
+-- the same of the first records that are a file
+
+pub prefix_valid : (rs : List Record) (p : Prefix) (work : Workload) → prefix_from rs ≡ Ok p → work ≡ p.work → IsValid work
+prefix_valid rs p work h is = subst IsValid (sym is) (records_valid (take p.last rs) p.work (taken_from rs p h))
+
+pub prefix_rising : (rs : List Record) (p : Prefix) (work : Workload) → prefix_from rs ≡ Ok p → work ≡ p.work → IsRising work.load.rows
+prefix_rising rs p work h is = subst (λ (w : Workload). IsRising w.load.rows) (sym is) (records_rising (take p.last rs) p.work (taken_from rs p h))

@@ -22,7 +22,7 @@ use Rattle.tpcc_rules.specs.declared.columns.Column.TheVariants.{Between, UpTo, 
 use Rattle.tpcc_rules.specs.declared.programs.Item.{Item}
 use Rattle.tpcc_rules.specs.declared.programs.Line.{Line}
 use Rattle.tpcc_rules.specs.declared.programs.NewOrder.{NewOrder}
-use Rattle.txn_program.specs.Valid.{is_plain, is_tpcc_key, is_plain_cell, is_tpcc_row, is_valid_item, has_district, has_customer, is_line_of_numbers, is_valid_line}
+use Rattle.txn_program.specs.Valid.{is_tpcc_key, is_tpcc_row, is_valid_item, has_district, has_customer, is_line_of_numbers, is_valid_line}
 use Rattle.txn_program.specs.declared.programs.Program.TheVariants as programs
 use Rattle.txn_program.specs.declared.programs.Workload.{Workload}
 use Rattle.workload_text.specs.declared.faults.Flaw.{Flaw}
@@ -37,11 +37,7 @@ use Rattle.workload_text.specs.Fields.{field_at, integer_at, number_at, short_te
 use Rattle.workload_text.specs.Grammar.{said_of_tpcc, said_by_word}
 use Rattle.workload_text.specs.Tpcc.{warehouse_at, district_at, customer_at, item_at, table_of, width_of, columns_of, key_from, cell_at, cells_from, row_from, item_from, sold_by, before_runs, known_at, place_known, naming_of, places_from, payer_from, found, payer_of, payment_of, payment_named, payment_from, line_at, lines_from, ordered_from, stock_known, stocks_known, order_from}
 use Rattle.workload_text.proofs.Bound.{bound, passed, held, either_gave, same_ok}
-use Rattle.workload_text.proofs.Plain.{is_plain_record}
-use Rattle.workload_text.proofs.ReadFields.{number_read, integer_read, short_text_read, plain_at, Allowed, row_allowed, run_allowed, end_allowed}
-
-plain_field : (n : ℕ) (r : Record) → is_plain_record r ≡ true → list_all is_plain (field_at n r) ≡ true
-plain_field n r plain = plain_at (n - 1) r plain
+use Rattle.workload_text.proofs.ReadFields.{number_read, integer_read, short_text_read, Allowed, row_allowed, run_allowed, end_allowed}
 
 -- rows: the key is one of its table, and with cells of its table's columns it makes a row that can be loaded
 
@@ -74,36 +70,29 @@ key_read Stock r key cells h fit =
     let i = number_read 3 1 1000000 (field_at 3 r) b.0 b.1 in
     subst (IsKey cells) (same_ok {E = Flaw} _ _ b.2) (and_from _ _ w (and_from _ _ i refl), fit)
 
--- a cell fits its column, and its text is plain
-abbrev IsCell : Column → Cell → Type 0
-IsCell column cell = (fits column cell ≡ true) × (is_plain_cell cell ≡ true)
-
-cell_read : (n : ℕ) (column : Column) (bytes : List ℕ) (cell : Cell) → list_all is_plain bytes ≡ true → cell_at n column bytes ≡ Ok cell → IsCell column cell
-cell_read n (Between low high) bytes cell plain h =
+cell_read : (n : ℕ) (column : Column) (bytes : List ℕ) (cell : Cell) → cell_at n column bytes ≡ Ok cell → fits column cell ≡ true
+cell_read n (Between low high) bytes cell h =
     let a = bound (integer_at n low high bytes) _ cell h in
-    subst (IsCell (Between low high)) (same_ok {E = Flaw} _ _ a.2) (integer_read n low high bytes a.0 a.1, refl)
-cell_read n (UpTo most) bytes cell plain h =
+    subst (λ (x : Cell). fits (Between low high) x ≡ true) (same_ok {E = Flaw} _ _ a.2) (integer_read n low high bytes a.0 a.1)
+cell_read n (UpTo most) bytes cell h =
     let a = bound (short_text_at n most bytes) _ cell h in
-    subst (IsCell (UpTo most)) (same_ok {E = Flaw} _ _ a.2) (short_text_read n most bytes a.0 plain a.1)
-cell_read n Credit bytes cell plain h =
+    subst (λ (x : Cell). fits (UpTo most) x ≡ true) (same_ok {E = Flaw} _ _ a.2) (short_text_read n most bytes a.0 a.1)
+cell_read n Credit bytes cell h =
     let a = held (is_credit bytes) _ _ cell h in
-    subst (IsCell Credit) (same_ok {E = Flaw} _ _ a.1) (a.0, plain)
-cell_read n AnyNumber bytes cell plain h =
+    subst (λ (x : Cell). fits Credit x ≡ true) (same_ok {E = Flaw} _ _ a.1) a.0
+cell_read n AnyNumber bytes cell h =
     let a = bound (integer_at n (negsuc (2 ^ 63 - 1)) (pos (2 ^ 63 - 1)) bytes) _ cell h in
-    subst (IsCell AnyNumber) (same_ok {E = Flaw} _ _ a.2) (refl, refl)
-cell_read n AnyText bytes cell plain h = subst (IsCell AnyText) (same_ok {E = Flaw} _ _ h) (refl, plain)
+    subst (λ (x : Cell). fits AnyNumber x ≡ true) (same_ok {E = Flaw} _ _ a.2) refl
+cell_read n AnyText bytes cell h = subst (λ (x : Cell). fits AnyText x ≡ true) (same_ok {E = Flaw} _ _ h) refl
 
-abbrev AreCells : List Column → List Cell → Type 0
-AreCells columns cells = (fits_all columns cells ≡ true) × (list_all is_plain_cell cells ≡ true)
-
-cells_read : (n : ℕ) (columns : List Column) (r : Record) (cells : List Cell) → is_plain_record r ≡ true → cells_from n columns r ≡ Ok cells → AreCells columns cells
-cells_read n [] r cells plain h = subst (AreCells []) (same_ok {E = Flaw} _ _ h) (refl, refl)
-cells_read n (column ∷ columns) r cells plain h =
+cells_read : (n : ℕ) (columns : List Column) (r : Record) (cells : List Cell) → cells_from n columns r ≡ Ok cells → fits_all columns cells ≡ true
+cells_read n [] r cells h = subst (λ (l : List Cell). fits_all [] l ≡ true) (same_ok {E = Flaw} _ _ h) refl
+cells_read n (column ∷ columns) r cells h =
     let a = bound (cell_at n column (field_at n r)) _ cells h in
     let b = bound (cells_from (n + 1) columns r) _ cells a.2 in
-    let first = cell_read n column (field_at n r) a.0 (plain_field n r plain) a.1 in
-    let more = cells_read (n + 1) columns r b.0 plain b.1 in
-    subst (AreCells (column ∷ columns)) (same_ok {E = Flaw} _ _ b.2) (and_from _ _ first.0 more.0, and_from _ _ first.1 more.1)
+    let first = cell_read n column (field_at n r) a.0 a.1 in
+    let more = cells_read (n + 1) columns r b.0 b.1 in
+    subst (λ (l : List Cell). fits_all (column ∷ columns) l ≡ true) (same_ok {E = Flaw} _ _ b.2) (and_from _ _ first more)
 
 -- items
 
@@ -227,15 +216,15 @@ module _ (work : Workload) (s : Said) where
   no_runs : (read : Result Said Flaw) → before_runs work read ≡ Ok s → (length work.programs ≡ 0) × (read ≡ Ok s)
   no_runs read h = let a = held (length work.programs == 0) _ _ s h in (eqb-true _ _ a.0, a.1)
 
-  table_allowed : (table : Table) (r : Record) → is_plain_record r ≡ true → before_runs work (row_from table work r) ≡ Ok s → AllowedTpcc work s
-  table_allowed table r plain h =
+  table_allowed : (table : Table) (r : Record) → before_runs work (row_from table work r) ≡ Ok s → AllowedTpcc work s
+  table_allowed table r h =
       let runs = no_runs (row_from table work r) h in
       let a = passed (not (length r == 1 + width_of table + length (columns_of table))) _ _ s runs.1 in
       let b = bound (key_from table r) _ s a.1 in
       let c = bound (cells_from (2 + width_of table) (columns_of table) r) _ s b.2 in
-      let cells = cells_read (2 + width_of table) (columns_of table) r c.0 plain c.1 in
-      let key = key_read table r b.0 c.0 b.1 cells.0 in
-      row_allowed is_tpcc_row is_valid_item work (1 + width_of table) b.0 c.0 s runs.0 (and_from _ _ (and_from _ _ key.0 key.1) cells.1) c.2
+      let cells = cells_read (2 + width_of table) (columns_of table) r c.0 c.1 in
+      let key = key_read table r b.0 c.0 b.1 cells in
+      row_allowed is_tpcc_row is_valid_item work (1 + width_of table) b.0 c.0 s runs.0 (and_from _ _ key.0 key.1) c.2
 
   item_allowed : (r : Record) → before_runs work (sold_by work r) ≡ Ok s → AllowedTpcc work s
   item_allowed r h =
@@ -281,13 +270,13 @@ module _ (work : Workload) (s : Said) where
       (and_from _ _ (and_from _ _ (and_from _ _ (and_from _ _ (le-leb _ _ some) (le-leb _ _ few)) (stocks_there work 5 o.lines e.0 lines.1 e.1))
       (place_there work o.w o.d c.0 c.1)) (known_there work 4 (customer_key o.w o.d o.c) d.0 d.1)) f.1
 
-  word_allowed : (r : Record) (table : Option Table) → is_plain_record r ≡ true → said_of_tpcc work r table ≡ Ok s → AllowedTpcc work s
-  word_allowed r (Some table) plain h = table_allowed table r plain h
-  word_allowed r None plain h =
+  word_allowed : (r : Record) (table : Option Table) → said_of_tpcc work r table ≡ Ok s → AllowedTpcc work s
+  word_allowed r (Some table) h = table_allowed table r h
+  word_allowed r None h =
       either_gave (AllowedTpcc work s) (bytes_eq (field_at 1 r) (codes "item")) _ _ s h (item_allowed r) (λ g.
       either_gave (AllowedTpcc work s) (bytes_eq (field_at 1 r) (codes "payment")) _ _ s g (payment_allowed r) (λ e.
       either_gave (AllowedTpcc work s) (bytes_eq (field_at 1 r) (codes "neworder")) _ _ s e (order_allowed r) (λ f.
       end_allowed is_tpcc_row is_valid_item work r s (held (bytes_eq (field_at 1 r) (codes "end")) _ _ s f).1)))
 
-  pub tpcc_allowed : (r : Record) → is_plain_record r ≡ true → said_by_word work r ≡ Ok s → AllowedTpcc work s
-  tpcc_allowed r plain h = word_allowed r (table_of (field_at 1 r)) plain h
+  pub tpcc_allowed : (r : Record) → said_by_word work r ≡ Ok s → AllowedTpcc work s
+  tpcc_allowed r h = word_allowed r (table_of (field_at 1 r)) h

@@ -4,6 +4,8 @@ use Rattle.std.specs.List.{list_all}
 use Rattle.deneva_base.specs.Rising.{keys_rise}
 use Rattle.deneva_base.specs.Rows.{in_key_order}
 use Rattle.deneva_base.specs.declared.rows.Keyed.{Keyed}
+use Rattle.tpcc_rules.specs.Items.{numbers_rise}
+use Rattle.tpcc_rules.specs.declared.programs.Item.{Item}
 use Rattle.txn_program.specs.declared.programs.Program.{Program}
 use Rattle.txn_program.specs.declared.programs.Program.TheVariants.{Ycsb, Payment, NewOrder}
 use Rattle.txn_program.specs.declared.programs.Workload.{Workload}
@@ -12,6 +14,10 @@ use Rattle.workload_text.specs.SortedItems.{by_number}
 -- the rows stand in strictly rising key order
 abbrev pub IsRising : List Keyed → Type 0
 IsRising rows = keys_rise rows ≡ true
+
+-- the items stand in the order of their numbers, of which no two have one
+abbrev pub AreByNumber : List Item → Type 0
+AreByNumber items = numbers_rise items ≡ true
 
 -- the keys of rows and steps are numbers of 32 bits, as they are in the program (those of a valid TPC-C workload always are)
 

@@ -3,7 +3,7 @@ use Rattle.std.specs.Prelude.{ℕ, ◌+◌, ◌==◌, List, [], ◌∷◌, ◌++
 use Rattle.std.specs.Str.{bytes_eq}
 use Rattle.deneva_base.specs.Rows.{put}
 use Rattle.deneva_base.specs.declared.rows.Keyed.{Keyed}
-use Rattle.records.specs.Records.{Record, records_of, has_quote}
+use Rattle.records.specs.Records.{Record, records_of}
 use Rattle.tpcc_rules.specs.declared.programs.Item.{Item}
 use Rattle.txn_program.specs.declared.programs.Program.{Program}
 use Rattle.txn_program.specs.declared.programs.WorkKind.{WorkKind}
@@ -110,18 +110,18 @@ abbrev pub at_end : Workload → ℕ → List Record → Result Workload InputFa
 at_end work n [] = Ok work
 at_end work n (r ∷ rs) = Err (fault n 0 Trailing)
 
--- after a record: a flaw is the fault, the end ends the reading, and else what it says is added and the rest is read
-abbrev pub read_after : ℕ → Workload → List Record → (Workload → Result Workload InputFault) → Result Said Flaw → Result Workload InputFault
-read_after n work rs rest (Err f) = Err (fault_of n f)
-read_after n work rs rest (Ok (Loads r)) = rest (with_row work r)
-read_after n work rs rest (Ok (Sells i)) = rest (with_item work i)
-read_after n work rs rest (Ok (Runs p)) = rest (with_program work p)
-read_after n work rs rest (Ok Ends) = at_end work (n + 1) rs
+-- after a record: a flaw is the fault, the end gives what it gives there, and else what it says is added and the rest is read
+abbrev pub read_after : {A : Type 0} → ℕ → Workload → Result A InputFault → (Workload → Result A InputFault) → Result Said Flaw → Result A InputFault
+read_after n work ended rest (Err f) = Err (fault_of n f)
+read_after n work ended rest (Ok (Loads r)) = rest (with_row work r)
+read_after n work ended rest (Ok (Sells i)) = rest (with_item work i)
+read_after n work ended rest (Ok (Runs p)) = rest (with_program work p)
+read_after n work ended rest (Ok Ends) = ended
 
 -- record by record, from record n on, where the records before it give this workload
 abbrev pub read_on : Head → ℕ → List Record → Workload → Result Workload InputFault
 read_on head n [] work = Err (fault n 0 NoEnd)
-read_on head n (r ∷ rs) work = read_after n work rs (read_on head (n + 1) rs) (said_by head work r)
+read_on head n (r ∷ rs) work = read_after n work (at_end work (n + 1) rs) (read_on head (n + 1) rs) (said_by head work r)
 
 -- no row, no item and no transaction yet
 abbrev pub empty : Head → Workload
@@ -136,24 +136,30 @@ abbrev pub workload_from : List Record → Result Workload InputFault
 workload_from [] = Err (fault 1 1 Magic)
 workload_from (r ∷ rs) = read_from_head (head_from r) rs
 
--- quoted fields are not read: the first field with a double quote, where field n stands first
-abbrev pub quoted_field : ℕ → Record → Option ℕ
-quoted_field n [] = None
-quoted_field n (bytes ∷ more) = if has_quote bytes then Some n else quoted_field (n + 1) more
-
-abbrev pub quote_or : ℕ → Option ℕ → Option InputFault → Option InputFault
-quote_or n None later = later
-quote_or n (Some place) later = Some (fault n place Kind)
-
--- the first record with a double quote, where record n stands first
-abbrev pub quote_from : ℕ → List Record → Option InputFault
-quote_from n [] = None
-quote_from n (r ∷ rs) = quote_or n (quoted_field 1 r) (quote_from (n + 1) rs)
-
-abbrev pub unless_quoted : Option InputFault → Result Workload InputFault → Result Workload InputFault
-unless_quoted None read = read
-unless_quoted (Some f) read = Err f
-
 -- the workload that the bytes of a file give, or their first fault
 abbrev pub workload_of : List ℕ → Result Workload InputFault
-workload_of bytes = unless_quoted (quote_from 1 (records_of bytes)) (workload_from (records_of bytes))
+workload_of bytes = workload_from (records_of bytes)
+
+-- the records up to and with the first that ends a file: the workload that they give, the number of the last of them, and
+-- the records behind it
+pub record Prefix : Type 0 where
+  pub work : Workload
+  pub last : ℕ
+  pub more : List Record
+
+abbrev pub prefix_on : Head → ℕ → List Record → Workload → Result Prefix InputFault
+prefix_on head n [] work = Err (fault n 0 NoEnd)
+prefix_on head n (r ∷ rs) work =
+    read_after n work (Ok (record { work = work; last = n; more = rs })) (prefix_on head (n + 1) rs) (said_by head work r)
+
+abbrev pub prefix_from_head : Result Head Flaw → List Record → Result Prefix InputFault
+prefix_from_head (Ok head) rs = prefix_on head 2 rs (empty head)
+prefix_from_head (Err f) rs = Err (fault_of 1 f)
+
+abbrev pub prefix_from : List Record → Result Prefix InputFault
+prefix_from [] = Err (fault 1 1 Magic)
+prefix_from (r ∷ rs) = prefix_from_head (head_from r) rs
+
+-- the first records of some bytes that are a file, or the first fault
+abbrev pub prefix_of : List ℕ → Result Prefix InputFault
+prefix_of bytes = prefix_from (records_of bytes)

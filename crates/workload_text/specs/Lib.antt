@@ -1,4 +1,5 @@
 pub mod Fields
+pub mod FileText
 pub mod Files
 pub mod Gives
 pub mod Grammar

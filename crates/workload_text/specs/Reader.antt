@@ -1,5 +1,6 @@
 -- What a reader has read so far.
-use Rattle.std.specs.Prelude.{◌≡◌, ⊤, ℕ, Result, Ok, Err}
+use Rattle.std.specs.Prelude.{◌≡◌, ⊤, ℕ, List, min, Result, Ok, Err}
+use Rattle.records.specs.Records.{Record}
 use Rattle.txn_program.specs.declared.programs.Workload.{Workload}
 use Rattle.workload_text.specs.declared.faults.Flaw.{Flaw}
 use Rattle.workload_text.specs.declared.faults.InputFault.{InputFault}
@@ -8,6 +9,7 @@ use Rattle.workload_text.specs.declared.faults.ReadError.TheVariants.{NoMemory, 
 use Rattle.workload_text.specs.declared.faults.RecordError.{RecordError}
 use Rattle.workload_text.specs.declared.faults.RecordError.TheVariants as errors
 use Rattle.workload_text.specs.declared.heads.Head.{Head}
+use Rattle.workload_text.specs.declared.lines.FileEnd.{FileEnd}
 use Rattle.workload_text.specs.declared.reading.Reading.{Reading}
 use Rattle.workload_text.specs.declared.reading.Progress.{Progress}
 use Rattle.workload_text.specs.declared.reading.Progress.TheVariants.{More, Ended}
@@ -15,7 +17,7 @@ use Rattle.workload_text.specs.declared.said.Said.{Said}
 use Rattle.workload_text.specs.declared.said.Said.TheVariants.{Loads, Sells, Runs, Ends}
 use Rattle.workload_text.specs.Gives.{Fails}
 use Rattle.workload_text.specs.Fields.{fault_of}
-use Rattle.workload_text.specs.Grammar.{with_row, with_item, with_program, kind_of, fields_of_head}
+use Rattle.workload_text.specs.Grammar.{Prefix, with_row, with_item, with_program, kind_of, fields_of_head}
 use Rattle.workload_text.specs.SortedItems.{items_in}
 
 -- the workload so far
@@ -65,3 +67,18 @@ Reads (Ok work) read = read ≡ Ok work
 Reads (Err NoMemory) read = ⊤
 Reads (Err (Fault f)) read = read ≡ Err f
 Reads (Err ReadFault) read = ⊥
+
+-- the end that the definition finds, with these records behind it, or its fault, unless memory ran out; no source is read
+abbrev pub ReadsToEnd : Result FileEnd ReadError → List Record → Result Prefix InputFault → Type 0
+ReadsToEnd (Ok ended) more read = read ≡ Ok (record { work = work_of ended.reading; last = ended.record_no; more = more })
+ReadsToEnd (Err NoMemory) more read = ⊤
+ReadsToEnd (Err (Fault f)) more read = read ≡ Err f
+ReadsToEnd (Err ReadFault) more read = ⊥
+
+-- the workload of the definition and how many records it takes, where the count stops at 4,294,967,295, or the definition's
+-- fault, unless memory ran out; no source is read
+abbrev pub ReadsPrefix : Result (Workload × ℕ) ReadError → Result Prefix InputFault → Type 0
+ReadsPrefix (Ok (work, count)) read = (p : Prefix) × (read ≡ Ok p) × (p.work ≡ work) × (count ≡ min p.last 4294967295)
+ReadsPrefix (Err NoMemory) read = ⊤
+ReadsPrefix (Err (Fault f)) read = read ≡ Err f
+ReadsPrefix (Err ReadFault) read = ⊥

@@ -13,7 +13,6 @@ mod ordered_rows;
 mod orders;
 mod originals;
 mod payments;
-mod quotes;
 mod reader;
 mod reading;
 mod said;
@@ -27,8 +26,11 @@ mod tpcc_records;
 mod ycsb_records;
 
 pub use faults::{FaultKind, InputFault, ReadError};
-pub use laws::{files_are_valid, steps_are_all_read, valid_workloads_have_files};
-pub use lines::parse_workload;
+pub use laws::{
+    files_are_read_back, files_are_valid, prefixes_are_files, steps_are_all_read,
+    valid_workloads_have_files,
+};
+pub use lines::{parse_prefix, parse_workload};
 pub use numbers::{integer_within, long_number_within, number_within};
 pub use ordered_rows::rows_in_order;
 pub use sources::{read_bytes, read_workload};

@@ -1,6 +1,6 @@
 //! The reader of a workload file, record by record.
 ghost use Rattle.std.specs.Prelude.{◌≡◌, ◌<◌, ◌≤◌, ◌^◌, map, length};
-ghost use Rattle.records.specs.Records.{fields_of};
+ghost use Rattle.csv.specs.Records.{fields_of};
 ghost use Rattle.workload_text.specs.Gives.{Gives};
 ghost use Rattle.workload_text.specs.Grammar as grammar;
 ghost use Rattle.workload_text.specs.Reader.{work_of, LineGives};
@@ -13,7 +13,7 @@ use crate::said::Said;
 use crate::tables::table_of;
 use crate::tpcc_records::{item_said, order_said, payment_said, table_row_said};
 use crate::ycsb_records::{row_of_texts, txn_of_steps};
-use records::split_fields;
+use records::{ByteRecord, fields_in};
 use std::alloc::Global;
 
 /// What a record with the word `end` says.
@@ -103,12 +103,17 @@ fn meaning(alloc: Global, reading: &mut Reading, fields: &[&[u8]]) -> Result<Sai
     }
 }
 
-/// Reads a record after the head from its line.
-pub fn read_line(alloc: Global, reading: &mut Reading, line: &[u8]) -> Result<Progress, RecordError>
-    ensures said { LineGives (work_of reading.old) (work_of reading.new) result (grammar.said_by reading.old.head (work_of reading.old) (fields_of line.now)) }
+/// Reads a record after the head.
+pub fn read_record(
+    alloc: Global,
+    reading: &mut Reading,
+    current: &ByteRecord,
+) -> Result<Progress, RecordError>
+    requires word { 1 ≤ length (fields_of current.now) }
+    ensures said { LineGives (work_of reading.old) (work_of reading.new) result (grammar.said_by reading.old.head (work_of reading.old) (fields_of current.now)) }
     ensures head { reading.new.head ≡ reading.old.head }
 {
-    let fields = split_fields(alloc, line)?;
+    let fields = fields_in(alloc, current)?;
     let said = meaning(alloc, reading, &fields)?;
     let progress = reading.add(said)?;
     Ok(progress)
