@@ -3,10 +3,10 @@ use Rattle.std.proofs.lemmas.Bool.Decides.{nat_tests}
 use Rattle.std.proofs.lemmas.Result.{on_ok_weaker}
 use Rattle.server_core.specs.Roles.{setting_of}
 use Rattle.coord.proofs.Ending.{undone_now, undone_again, undone_on, said_now, said_on, over_says, again_says}
-use Rattle.coord.proofs.coord.Coord.undone.Goals as goal
+use Rattle.coord.proofs.coord.Coord.hear_undone.Goals as goal
 
 pub returns-then-not-is_last-clause-ok : goal.returns-then-not-is_last-clause-ok
-returns-then-not-is_last-clause-ok c t is = undone_on _ _ _ _ t (setting_of c.args.self.now.role) c.args.who (sym (c.is_last.ensures t is) ∙ c.if-not-is_last.true) (record { role = refl; fixed = refl; homes = refl; count = refl; place = refl; sets = c.closed.ensures t is })
+returns-then-not-is_last-clause-ok c t is = undone_on _ _ _ _ t (setting_of c.args.self.now.role) c.args.who (sym (c.is_last.ensures t is) ∙ c.if-not-is_last.true) (record { role = refl; fixed = refl; homes = refl; count = refl; place = refl; sets = c.close_at.ensures t is })
 
 pub returns-then-not-is_last-clause-said : goal.returns-then-not-is_last-clause-said
 returns-then-not-is_last-clause-said c t is = said_on _ t _ _ _ (sym (c.is_last.ensures t is) ∙ c.if-not-is_last.true) refl
@@ -29,4 +29,4 @@ returns-clause-said c t is =
 pub returns-clause-ok : goal.returns-clause-ok
 returns-clause-ok c t is =
     let less : ltb c.args.who.turn c.args.self.now.role.config.attempts ≡ true = grind (arith, nat_tests) in
-    undone_again _ _ _ _ t (setting_of c.args.self.now.role) c.args.who (sym (c.is_last.ensures t is) ∙ c.if-not-is_last.false) less (record { role = refl; fixed = refl; homes = refl; count = refl; place = refl; sets = c.closed-2.ensures t is })
+    undone_again _ _ _ _ t (setting_of c.args.self.now.role) c.args.who (sym (c.is_last.ensures t is) ∙ c.if-not-is_last.false) less (record { role = refl; fixed = refl; homes = refl; count = refl; place = refl; sets = c.close_at-2.ensures t is })

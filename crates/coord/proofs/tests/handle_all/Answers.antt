@@ -3,7 +3,7 @@ use Rattle.server_core.specs.Roles.{FitsRole}
 use Rattle.coord.specs.Standing.{role_of}
 use Rattle.coord.specs.Trials.{FitInTurn}
 use Rattle.coord.proofs.Trying.{fit_one}
-use Rattle.coord.proofs.tests.play.Goals as goal
+use Rattle.coord.proofs.tests.handle_all.Goals as goal
 
 pub step-requires : goal.step-requires
 step-requires c =

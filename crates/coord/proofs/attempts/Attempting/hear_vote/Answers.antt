@@ -4,7 +4,7 @@ use Rattle.server_core.specs.Roles.{setting_of}
 use Rattle.coord.specs.Attempts.{state_of}
 use Rattle.coord.specs.States.{State, decision_mails, participants_of}
 use Rattle.coord.proofs.Votes.{voted_on, voted_last, quiet_on, told_last, with_ballots}
-use Rattle.coord.proofs.attempts.Attempting.voted.Goals as goal
+use Rattle.coord.proofs.attempts.Attempting.hear_vote.Goals as goal
 
 pub returns-then-not-is_last-clause-ok : goal.returns-then-not-is_last-clause-ok
 returns-then-not-is_last-clause-ok c =

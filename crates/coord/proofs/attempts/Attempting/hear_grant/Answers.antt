@@ -3,7 +3,7 @@ use Rattle.std.proofs.lemmas.Option.{slice_get_past}
 use Rattle.server_core.specs.Roles.{setting_of}
 use Rattle.coord.specs.Attempts.{state_of, reply_of}
 use Rattle.coord.specs.States.{mails_as}
-use Rattle.coord.proofs.attempts.Attempting.granted.Goals as goal
+use Rattle.coord.proofs.attempts.Attempting.hear_grant.Goals as goal
 
 pub returns-then-self-len-clause-said : goal.returns-then-self-len-clause-said
 returns-then-self-len-clause-said c =
