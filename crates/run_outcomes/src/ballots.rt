@@ -105,7 +105,7 @@ fn least_part(end: End, number: u64, ballots: &[Ballot]) -> Option<u8>
 }
 
 /// Why an attempt is aborted on these votes, whose windows do not meet.
-pub(crate) fn apart(ballots: &[Ballot]) -> Cause
+pub(crate) fn apart_cause(ballots: &[Ballot]) -> Cause
     ensures { result ≡ aborts.apart_of ballots.now }
 {
     let lo = greatest_lo(ballots);

@@ -49,7 +49,7 @@ fn push_reads(reads: &mut RowList, accesses: &[Access], rows: &[&Row]) -> Result
 
 impl Story<'_> {
     /// The line of the transaction, decided with this number on what it read.
-    pub(crate) fn decided_as(
+    pub(crate) fn decided_line(
         &self,
         role: Role<'_>,
         n: u64,
@@ -81,7 +81,7 @@ impl Story<'_> {
         let mut reads = RowList::new(role.alloc);
         push_reads(&mut reads, self.accesses.as_slice(), &rows)?;
         let n = committed_n(who, &self.entries);
-        let line = self.decided_as(role, n, reads)?;
+        let line = self.decided_line(role, n, reads)?;
         Ok(line)
     }
 

@@ -19,7 +19,7 @@ pub(crate) struct Refusal {
 }
 
 /// Whether the attempt was begun.
-pub(crate) fn started_for(who: Attempt, messages: &[&Msg]) -> bool
+pub(crate) fn has_started(who: Attempt, messages: &[&Msg]) -> bool
     ensures { result ≡ replies.started_for who (map (λ m. m.now) messages.now) }
 {
     let [msg, before @ ..] = messages else {
@@ -29,11 +29,11 @@ pub(crate) fn started_for(who: Attempt, messages: &[&Msg]) -> bool
         Msg::Start { who: by } => *by == who,
         _ => false,
     };
-    here || started_for(who, before)
+    here || has_started(who, before)
 }
 
 /// Whether an access of the attempt was refused.
-pub(crate) fn refused_for(who: Attempt, messages: &[&Msg]) -> bool
+pub(crate) fn is_refused(who: Attempt, messages: &[&Msg]) -> bool
     ensures { result ≡ replies.refused_for who (map (λ m. m.now) messages.now) }
 {
     let [msg, before @ ..] = messages else {
@@ -43,7 +43,7 @@ pub(crate) fn refused_for(who: Attempt, messages: &[&Msg]) -> bool
         Msg::Refused { who: by, .. } => *by == who,
         _ => false,
     };
-    here || refused_for(who, before)
+    here || is_refused(who, before)
 }
 
 /// The newest refusal of the attempt.

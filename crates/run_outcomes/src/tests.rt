@@ -150,7 +150,7 @@ fn commit(history: &mut History) -> Result<(), NoMemory> {
 }
 
 /// Two transactions that update key 1 at one partition: 1 commits; 2 is refused at entry 3, and given up.
-fn locked(alloc: Global) -> Result<(Workload, History), NoMemory> {
+fn lock_run(alloc: Global) -> Result<(Workload, History), NoMemory> {
     let work = work_of(alloc, &[&[(1, Some(b'p'))], &[(1, Some(b'q'))]])?;
     let mut history = History::new(alloc);
     ask_both(alloc, &mut history)?;
@@ -176,7 +176,7 @@ const TWO_PARTS: Config = Config {
 #[test]
 fn a_commit_and_a_refusal(rt: HostRuntime) -> Result<(), Fail> {
     let alloc = rt.alloc();
-    let (work, history) = locked(alloc)?;
+    let (work, history) = lock_run(alloc)?;
     assert!(rt; valid(&work));
     let rows = one_row(alloc, 1, b'p')?;
     let outcome = outcome_of(alloc, ONE_PART, &work, history.as_slice(), rows)?;
@@ -207,29 +207,29 @@ fn a_commit_and_a_refusal(rt: HostRuntime) -> Result<(), Fail> {
 #[test]
 fn the_least_undecided(rt: HostRuntime) -> Result<(), Fail> {
     let alloc = rt.alloc();
-    let (work, history) = locked(alloc)?;
+    let (work, history) = lock_run(alloc)?;
     assert!(rt; valid(&work));
     let entries = history.as_slice();
     assert_eq!(rt; entries.len(), 12);
     // without the Done of 1, the Undone of 2 too, or the Starts
     assert_eq!(rt;
-        undecided(alloc, ONE_PART, &work, &entries[..11])?,
+        least_undecided(alloc, ONE_PART, &work, &entries[..11])?,
         Some(TxnId(1))
     );
     assert_eq!(rt;
-        undecided(alloc, ONE_PART, &work, &entries[..9])?,
+        least_undecided(alloc, ONE_PART, &work, &entries[..9])?,
         Some(TxnId(1))
     );
     assert_eq!(rt;
-        undecided(alloc, ONE_PART, &work, &entries[2..])?,
+        least_undecided(alloc, ONE_PART, &work, &entries[2..])?,
         Some(TxnId(1))
     );
-    assert_eq!(rt; undecided(alloc, ONE_PART, &work, entries)?, None);
+    assert_eq!(rt; least_undecided(alloc, ONE_PART, &work, entries)?, None);
     let mut late = History::new(alloc);
     ask_both(alloc, &mut late)?;
     commit(&mut late)?;
     assert_eq!(rt;
-        undecided(alloc, ONE_PART, &work, late.as_slice())?,
+        least_undecided(alloc, ONE_PART, &work, late.as_slice())?,
         Some(TxnId(2))
     );
     Ok(())
@@ -268,7 +268,7 @@ fn finish(history: &mut History, node: u8, id: u32, part: u8, n: u64) -> Result<
 
 /// Transactions 1 and 2 have their home at node 1, and 3 at node 0. In the global order 3 stands before 1, and 2 is not
 /// finished.
-fn ordered(alloc: Global) -> Result<(Workload, History), NoMemory> {
+fn calvin_run(alloc: Global) -> Result<(Workload, History), NoMemory> {
     let work = work_of(
         alloc,
         &[
@@ -291,7 +291,7 @@ fn ordered(alloc: Global) -> Result<(Workload, History), NoMemory> {
 #[test]
 fn a_global_order(rt: HostRuntime) -> Result<(), Fail> {
     let alloc = rt.alloc();
-    let (work, history) = ordered(alloc)?;
+    let (work, history) = calvin_run(alloc)?;
     assert!(rt; valid(&work));
     let rows = RowList::new(alloc);
     let outcome = outcome_of(alloc, TWO_PARTS, &work, history.as_slice(), rows)?;
@@ -307,7 +307,7 @@ fn a_global_order(rt: HostRuntime) -> Result<(), Fail> {
     reads.push(keyed_of(alloc, 2, b'r')?)?;
     assert!(rt; second.reads == reads);
     assert_eq!(rt; outcome.giveups.len() + outcome.aborts.len(), 0);
-    let open = undecided(alloc, TWO_PARTS, &work, history.as_slice())?;
+    let open = least_undecided(alloc, TWO_PARTS, &work, history.as_slice())?;
     assert_eq!(rt; open, Some(TxnId(2)));
     Ok(())
 }

@@ -1,6 +1,6 @@
 use Rattle.std.proofs.Common.{◌≡◌, map, take}
 use Rattle.server_core.specs.Runs.{heard}
-use Rattle.run_outcomes.proofs.stories.heard.Given as goal
+use Rattle.run_outcomes.proofs.stories.messages_at.Given as goal
 
 -- those among the entries so far
 abbrev pub invariant-loop-entry : goal.invariant-loop-entry

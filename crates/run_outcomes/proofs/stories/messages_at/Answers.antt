@@ -3,8 +3,8 @@ use Rattle.std.proofs.lemmas.Bool.Decides.{nat_tests}
 use Rattle.std.proofs.lemmas.List.{append-nil, map-append, map_more}
 use Rattle.server_core.specs.Runs.{heard}
 use Rattle.run_outcomes.proofs.Places.{heard_more}
-use Rattle.run_outcomes.proofs.stories.heard.Goals as goal
-use Rattle.run_outcomes.proofs.stories.heard.Goals.{then-entry-node+in_ok-push, else-entry-node}
+use Rattle.run_outcomes.proofs.stories.messages_at.Goals as goal
+use Rattle.run_outcomes.proofs.stories.messages_at.Goals.{then-entry-node+in_ok-push, else-entry-node}
 
 pub loop-entry-preserved : goal.loop-entry-preserved
 loop-entry-preserved c =

@@ -1,6 +1,6 @@
 use Rattle.std.proofs.Common.{◌≡◌, map, take}
 use Rattle.run_outcomes.specs.Finishing.{gathered}
-use Rattle.run_outcomes.proofs.ordered.collected.Given as goal
+use Rattle.run_outcomes.proofs.ordered.rows_read.Given as goal
 
 -- the rows of the accesses so far
 abbrev pub invariant-loop-access : goal.invariant-loop-access
