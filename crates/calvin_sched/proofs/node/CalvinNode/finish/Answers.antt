@@ -67,8 +67,8 @@ returns-clause-stands c = λ ms stands suits.
       batches = batches_kept s v a.part ms stands.fit x q rows suits n.batches stands.batches;
       locks = locks_left s v a.part ms stands.fit x q rows suits done n.locks c.leave.new.self stands.locks (λ key. c.leave.ensures key ∙ ap (λ l. left_by x l key (queue_at n.locks key)) (c.as_slice-4.ensures ∙ c.in_ok-here.ensures));
       arrivals = arrivals_forgotten s a.part ms stands.fit x q rows suits n.arrivals stands.arrivals c.forget.new.self c.forget.ensures done;
-      versions = versions_offered s v a.part ms stands.fit x q rows suits done n.store c.put_left.new.store stands.versions
-          (λ key. c.put_left.ensures key
+      versions = versions_offered s v a.part ms stands.fit x q rows suits done n.store c.put_rows.new.store stands.versions
+          (λ key. c.put_rows.ensures key
           ∙ ap (λ m. offered m c.number-number.result (row_of c.in_ok-left.left key)) (ap (λ f. get f key) c.in_ok-reserve.ensures.versions)
           ∙ ap (λ m. offered (version_at n.store key) m (row_of c.in_ok-left.left key)) c.number-number.ensures
           ∙ ap (λ l. offered (version_at n.store key) (number s x) (row_of l key)) left);

@@ -3,7 +3,7 @@ use Rattle.deneva_base.specs.Rows.{row_of}
 use Rattle.deneva_base.specs.declared.keys.Key.{Key}
 use Rattle.row_store.specs.Stores.{version_at}
 use Rattle.calvin_sched.specs.Versions.{offered}
-use Rattle.calvin_sched.proofs.rows.put_left.Given as goal
+use Rattle.calvin_sched.proofs.rows.put_rows.Given as goal
 
 -- the rows that are left lead on to the end
 abbrev pub invariant-loop-key : goal.invariant-loop-key

@@ -1,5 +1,5 @@
 use Rattle.std.proofs.Common.{◌≡◌}
-use Rattle.run_trials.proofs.runs.resumed_after.Given as goal
+use Rattle.run_trials.proofs.runs.resumed_history.Given as goal
 
 -- it is a world of this configuration and this workload
 abbrev pub invariant-loop : goal.invariant-loop

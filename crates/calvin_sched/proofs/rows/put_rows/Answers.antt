@@ -4,7 +4,7 @@ use Rattle.deneva_base.specs.declared.rows.Keyed.{Keyed}
 use Rattle.row_store.specs.Stores.{version_at}
 use Rattle.calvin_sched.specs.Versions.{offered}
 use Rattle.calvin_sched.proofs.RowSteps.{put_step}
-use Rattle.calvin_sched.proofs.rows.put_left.Goals as goal
+use Rattle.calvin_sched.proofs.rows.put_rows.Goals as goal
 
 pub loop-key-preserved : goal.loop-key-preserved
 loop-key-preserved c =

@@ -5,8 +5,8 @@ use Rattle.deneva_base.specs.declared.numbers.TxnId.{TxnId}
 use Rattle.server_core.specs.CalvinScheduler.{as_far}
 use Rattle.calvin_sched.specs.Batches.{ids_in}
 use Rattle.calvin_sched.proofs.BatchSteps.{taken_step}
-use Rattle.calvin_sched.proofs.batches.Batches.taken_with.Goals.{then-next-place, else-next-place+in-Some}
-use Rattle.calvin_sched.proofs.batches.Batches.taken_with.Goals as goal
+use Rattle.calvin_sched.proofs.batches.Batches.fresh_ids.Goals.{then-next-place, else-next-place+in-Some}
+use Rattle.calvin_sched.proofs.batches.Batches.fresh_ids.Goals as goal
 
 pub loop-next-preserved : goal.loop-next-preserved
 loop-next-preserved c =

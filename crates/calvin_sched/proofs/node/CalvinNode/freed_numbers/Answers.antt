@@ -3,7 +3,7 @@ use Rattle.server_core.specs.Roles.{setting_of}
 use Rattle.calvin_sched.specs.Freed.{freed_on}
 use Rattle.calvin_sched.specs.Tables.{queue_at}
 use Rattle.calvin_sched.proofs.FreedSteps.{put_more}
-use Rattle.calvin_sched.proofs.node.CalvinNode.freed.Goals as goal
+use Rattle.calvin_sched.proofs.node.CalvinNode.freed_numbers.Goals as goal
 
 pub loop-access-preserved : goal.loop-access-preserved
 loop-access-preserved c =

@@ -72,7 +72,7 @@ fn config(protocol: Protocol) -> Config
 }
 
 /// What node 0 of two says under NO_WAIT.
-pub(crate) fn said_without_waits(alloc: Global, steps: &[Step]) -> Result<Outbox, NoMemory>
+pub(crate) fn mails_without_waits(alloc: Global, steps: &[Step]) -> Result<Outbox, NoMemory>
     requires { FitInTurn (trial_role NoWait) [] steps.now }
 {
     let work = work(alloc)?;
@@ -83,7 +83,7 @@ pub(crate) fn said_without_waits(alloc: Global, steps: &[Step]) -> Result<Outbox
 }
 
 /// What node 0 of two says under WAIT_DIE.
-pub(crate) fn said_with_waits(alloc: Global, steps: &[Step]) -> Result<Outbox, NoMemory>
+pub(crate) fn mails_with_waits(alloc: Global, steps: &[Step]) -> Result<Outbox, NoMemory>
     requires { FitInTurn (trial_role WaitDie) [] steps.now }
 {
     let work = work(alloc)?;
@@ -94,7 +94,7 @@ pub(crate) fn said_with_waits(alloc: Global, steps: &[Step]) -> Result<Outbox, N
 }
 
 /// The loaded row of this number is granted.
-fn granted(alloc: Global, from: u8, number: u32) -> Result<Step, NoMemory>
+fn grant_step(alloc: Global, from: u8, number: u32) -> Result<Step, NoMemory>
     ensures { IfOk result (λ s. s ≡ granted_step from number) }
 {
     let keyed = row(alloc, number)?;
@@ -110,7 +110,7 @@ fn granted(alloc: Global, from: u8, number: u32) -> Result<Step, NoMemory>
 }
 
 /// Transaction 1 is started, and its first two accesses are granted.
-fn asked(alloc: Global) -> Result<Vec<Step>, NoMemory>
+fn two_grants(alloc: Global) -> Result<Vec<Step>, NoMemory>
     ensures { IfOk result (λ steps. steps.items ≡ granted_twice) }
 {
     let mut steps = Vec::new(alloc);
@@ -118,16 +118,16 @@ fn asked(alloc: Global) -> Result<Vec<Step>, NoMemory>
         from: 0,
         msg: Msg::Start { who: WHO },
     })?;
-    steps.push(granted(alloc, 0, 0)?)?;
-    steps.push(granted(alloc, 1, 1)?)?;
+    steps.push(grant_step(alloc, 0, 0)?)?;
+    steps.push(grant_step(alloc, 1, 1)?)?;
     Ok(steps)
 }
 
 /// The third access of transaction 1 is refused.
-pub(crate) fn refused(alloc: Global) -> Result<Vec<Step>, NoMemory>
+pub(crate) fn refusal_steps(alloc: Global) -> Result<Vec<Step>, NoMemory>
     ensures { IfOk result (λ steps. steps.items ≡ refused_steps) }
 {
-    let mut steps = asked(alloc)?;
+    let mut steps = two_grants(alloc)?;
     let msg = Msg::Refused {
         who: WHO,
         key: ycsb_key_of(2),
@@ -138,11 +138,11 @@ pub(crate) fn refused(alloc: Global) -> Result<Vec<Step>, NoMemory>
 }
 
 /// Transaction 1 has all grants, and partitions 0 and 1 vote so.
-pub(crate) fn voted(alloc: Global, first: Msg, second: Msg) -> Result<Vec<Step>, NoMemory>
+pub(crate) fn vote_steps(alloc: Global, first: Msg, second: Msg) -> Result<Vec<Step>, NoMemory>
     ensures { IfOk result (λ steps. steps.items ≡ asked_steps ++ sent 0 first ∷ sent 1 second ∷ []) }
 {
-    let mut steps = asked(alloc)?;
-    steps.push(granted(alloc, 0, 2)?)?;
+    let mut steps = two_grants(alloc)?;
+    steps.push(grant_step(alloc, 0, 2)?)?;
     steps.push(Step {
         from: 0,
         msg: first,
@@ -155,10 +155,10 @@ pub(crate) fn voted(alloc: Global, first: Msg, second: Msg) -> Result<Vec<Step>,
 }
 
 /// The windows meet from 5 to 9, and both partitions tell that they have committed.
-pub(crate) fn meeting(alloc: Global) -> Result<Vec<Step>, NoMemory>
+pub(crate) fn meeting_steps(alloc: Global) -> Result<Vec<Step>, NoMemory>
     ensures { IfOk result (λ steps. steps.items ≡ asked_steps ++ meeting_steps) }
 {
-    let mut steps = voted(alloc, yes(0, 1, 9), yes(1, 5, 12))?;
+    let mut steps = vote_steps(alloc, yes(0, 1, 9), yes(1, 5, 12))?;
     let msg = Msg::Done { who: WHO, part: 0 };
     steps.push(Step { from: 0, msg })?;
     let msg = Msg::Done { who: WHO, part: 1 };
@@ -167,10 +167,10 @@ pub(crate) fn meeting(alloc: Global) -> Result<Vec<Step>, NoMemory>
 }
 
 /// The windows do not meet, both partitions tell that they have aborted, and the second attempt starts.
-pub(crate) fn apart(alloc: Global) -> Result<Vec<Step>, NoMemory>
+pub(crate) fn apart_steps(alloc: Global) -> Result<Vec<Step>, NoMemory>
     ensures { IfOk result (λ steps. steps.items ≡ asked_steps ++ apart_steps) }
 {
-    let mut steps = voted(alloc, yes(0, 1, 4), yes(1, 5, 9))?;
+    let mut steps = vote_steps(alloc, yes(0, 1, 4), yes(1, 5, 9))?;
     let msg = Msg::Undone { who: WHO, part: 0 };
     steps.push(Step { from: 0, msg })?;
     let msg = Msg::Undone { who: WHO, part: 1 };

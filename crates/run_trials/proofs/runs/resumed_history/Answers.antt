@@ -1,6 +1,6 @@
 use Rattle.std.proofs.Common.{◌≡◌, reverse, refl, ap, ◌∙◌}
 use Rattle.std.proofs.lemmas.List.{reverse-reverse}
-use Rattle.run_trials.proofs.runs.resumed_after.Goals as goal
+use Rattle.run_trials.proofs.runs.resumed_history.Goals as goal
 
 pub resume-requires : goal.resume-requires
 resume-requires g c lifetimes =

@@ -2,7 +2,7 @@ use Rattle.std.proofs.Common.{◌≡◌, ◌++◌, ◌-◌, length, drop, is_som
 use Rattle.std.specs.List.{flat_map}
 use Rattle.server_core.specs.CalvinScheduler.{as_far}
 use Rattle.calvin_sched.specs.Batches.{came, ids_in, newly}
-use Rattle.calvin_sched.proofs.batches.Batches.taken_with.Given as goal
+use Rattle.calvin_sched.proofs.batches.Batches.fresh_ids.Given as goal
 
 -- those so far and those that are left make all
 abbrev pub invariant-loop-next : goal.invariant-loop-next
