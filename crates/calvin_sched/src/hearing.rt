@@ -115,7 +115,7 @@ impl<'w> CalvinNode<'w> {
         self.locks.leave(id, here.as_slice());
         self.arrivals.forget(id);
         put_rows(&mut self.store, number, left);
-        out.put_all(mails);
+        out.append_all(mails);
         Ok(())
     }
 

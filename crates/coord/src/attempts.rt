@@ -3,7 +3,7 @@ ghost use Rattle.std.specs.Prelude.{◌≡◌, ◌++◌, ◌<◌, ◌≤◌, ◌
 ghost use Rattle.std.specs.List.{list_all};
 ghost use Rattle.deneva_base.specs.Lists.{IsIn};
 ghost use Rattle.txn_program.specs.Serial.{all_ids};
-ghost use Rattle.server_core.specs.Replies.{Reply};
+ghost use Rattle.server_core.specs.Received.{Reply};
 ghost use Rattle.server_core.specs.Roles.{setting_of};
 ghost use Rattle.coord.specs.Attempts.{state_of, reply_of};
 ghost use Rattle.coord.specs.States as states;

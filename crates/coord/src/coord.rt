@@ -105,12 +105,12 @@ impl<'w> Coord<'w> {
         let first = *accesses.get(0);
         out.reserve(1)?;
         let counter = self.counter + u64::from(self.draws(who));
-        self.open.put(
+        self.open.insert(
             who.txn,
             Attempting::new(role.alloc, who.turn, stamp, accesses),
         )?;
         self.counter = counter;
-        out.put(ask_mail(&role, who, stamp, first));
+        out.append(ask_mail(&role, who, stamp, first));
         Ok(())
     }
 

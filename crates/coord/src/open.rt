@@ -43,7 +43,7 @@ impl OpenTxns {
     }
 
     /// Opens a transaction, or has it go on with a new attempt.
-    pub fn put(&mut self, id: TxnId, attempt: Attempting) -> Result<(), NoMemory>
+    pub fn insert(&mut self, id: TxnId, attempt: Attempting) -> Result<(), NoMemory>
         ensures ok { OnOk result (SetsState self.old id (Some (state_of attempt)) self.new) }
         ensures err { OnErr result (SameStates self.old self.new) }
     {

@@ -41,7 +41,7 @@ pub(crate) fn say_to_all(
 {
     out.reserve(participants.len())?;
     for participant in participants {
-        out.put(Mail {
+        out.append(Mail {
             from,
             to: *participant,
             msg: ending.message(who),

@@ -3,7 +3,7 @@ ghost use Rattle.std.specs.Prelude.{◌≡◌, ◌&&◌, ◌++◌, List, Some, N
 ghost use Rattle.std.specs.List.{find};
 ghost use Rattle.server_core.specs.Aborts as aborts;
 ghost use Rattle.server_core.specs.Coordinator as coordinator;
-ghost use Rattle.server_core.specs.Ends as ends;
+ghost use Rattle.server_core.specs.AttemptEnds as ends;
 ghost use Rattle.server_core.specs.declared.messages.Entry as messages;
 ghost use Rattle.run_outcomes.specs.Seen.{refusal_of};
 ghost use Rattle.server_core.specs.Roles.{setting_of};
@@ -11,7 +11,7 @@ ghost use Rattle.run_outcomes.specs.Stories.{Tells};
 ghost use Rattle.server_core.specs.declared.role.Role as roles;
 
 use crate::ballots::{all_voted, apart_cause, first_no};
-use crate::replies::{Refusal, has_started, refusal_for, votes_for};
+use crate::received::{Refusal, has_started, refusal_for, votes_for};
 use crate::stories::Story;
 use deneva_base::{Attempt, Cause, Key, NoMemory};
 use server_core::{AbortLine, AbortList, Ballot, Entry, Msg, Role, greatest_lo, least_hi};

@@ -1,7 +1,7 @@
 //! The lines of decided transactions.
 ghost use Rattle.std.specs.Prelude.{◌≡◌, ◌++◌, List, map, IfOk, OnOk, option_to_list};
 ghost use Rattle.server_core.specs.Coordinator as coordinator;
-ghost use Rattle.server_core.specs.Ends.{attempt};
+ghost use Rattle.server_core.specs.AttemptEnds.{attempt};
 ghost use Rattle.server_core.specs.Lines as listed;
 ghost use Rattle.server_core.specs.declared.messages.Entry as messages;
 ghost use Rattle.run_outcomes.specs.ByTransaction.{lines_for};
@@ -9,7 +9,7 @@ ghost use Rattle.run_outcomes.specs.GrantedRows.{reply_of};
 ghost use Rattle.server_core.specs.Roles.{setting_of};
 ghost use Rattle.run_outcomes.specs.Stories.{Tells};
 
-use crate::replies::grants_for;
+use crate::received::grants_for;
 use crate::stories::Story;
 use deneva_base::{Access, Attempt, Copied, Keyed, NoMemory, Number, Row, RowList};
 use server_core::{Decided, Entry, Msg, Role};

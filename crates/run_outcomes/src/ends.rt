@@ -1,14 +1,14 @@
 //! How the attempts of a transaction ended.
 ghost use Rattle.std.specs.Prelude.{◌≡◌, List, IfOk, option_map, option_to_list};
 ghost use Rattle.server_core.specs.Coordinator as coordinator;
-ghost use Rattle.server_core.specs.Ends as ends;
+ghost use Rattle.server_core.specs.AttemptEnds as ends;
 ghost use Rattle.server_core.specs.declared.messages.Entry as messages;
 ghost use Rattle.run_outcomes.specs.ByTransaction.{giveups_for};
 ghost use Rattle.server_core.specs.Roles.{setting_of};
 ghost use Rattle.run_outcomes.specs.Stories.{Tells};
 ghost use Rattle.server_core.specs.declared.role.Role as roles;
 
-use crate::replies::{all_done, all_undone, grants_for, has_started, is_refused};
+use crate::received::{all_done, all_undone, grants_for, has_started, is_refused};
 use crate::stories::Story;
 use deneva_base::{Attempt, ByteList, NoMemory};
 use server_core::{Giveup, Role};

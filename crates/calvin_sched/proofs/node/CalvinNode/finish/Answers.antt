@@ -39,7 +39,7 @@ returns-clause-says c = λ ms stands suits.
     let done : is_finished s (Rows x q rows ∷ ms) x ≡ true = sym (complete_is s a.part ms stands.fit x q rows suits n.arrivals stands.arrivals) ∙ c.requires.complete in
     let left : c.in_ok-left.left ≡ applied s a.part (Rows x q rows ∷ ms) x = c.in_ok-left.ensures ∙ ap (λ l. left_at s a.part x (collected_from s (rows_with (arrivals_at n.arrivals x) q l) x)) c.as_slice.ensures ∙ ap (left_at s a.part x) (collected_is s a.part ms stands.fit x q rows suits n.arrivals stands.arrivals) in
     let said = says_finish a.config a.work.now a.ranges a.valid a.part ms stands.fit x q rows suits done n.store stands.versions n.locks stands.locks in
-    c.put_all.ensures.mails
+    c.append_all.ensures.mails
     ∙ ap (λ l. l ++ c.in_ok-mails.mails) c.in_ok-reserve-2.ensures.mails
     ∙ ap (λ l. c.args.out.now.mails ++ l)
     (c.in_ok-mails.ensures

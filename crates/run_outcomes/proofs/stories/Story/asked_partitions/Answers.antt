@@ -1,7 +1,7 @@
 use Rattle.std.proofs.Common.{sym, ap, ap₂, map, reverse, ◌∙◌}
 use Rattle.std.proofs.lemmas.List.{length-map}
 use Rattle.std.proofs.lemmas.Result.{IfOk-weaker}
-use Rattle.server_core.specs.Replies.{grants_for}
+use Rattle.server_core.specs.Received.{grants_for}
 use Rattle.server_core.specs.Setting.{partitions_of}
 use Rattle.run_outcomes.proofs.Telling.{asked_told}
 use Rattle.run_outcomes.proofs.stories.Story.asked_partitions.Goals as goal

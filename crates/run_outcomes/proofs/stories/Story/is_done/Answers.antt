@@ -1,6 +1,6 @@
 use Rattle.std.proofs.Common.{map, ◌&&◌, sym, ap, ap₂, ◌∙◌}
-use Rattle.server_core.specs.Ends.{attempt, dones_for}
-use Rattle.server_core.specs.Replies.{started_for, all_closed}
+use Rattle.server_core.specs.AttemptEnds.{attempt, dones_for}
+use Rattle.server_core.specs.Received.{started_for, all_closed}
 use Rattle.run_outcomes.proofs.Telling.{done_told}
 use Rattle.run_outcomes.proofs.stories.Story.is_done.Goals as goal
 

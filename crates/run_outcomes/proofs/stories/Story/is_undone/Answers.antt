@@ -1,7 +1,7 @@
 use Rattle.std.proofs.Common.{map, ◌&&◌, refl, ap, ap₂, sym, ◌∙◌}
 use Rattle.server_core.specs.Coordinator.{told}
-use Rattle.server_core.specs.Ends.{attempt, at_home, undones_for}
-use Rattle.server_core.specs.Replies.{started_for, all_closed}
+use Rattle.server_core.specs.AttemptEnds.{attempt, at_home, undones_for}
+use Rattle.server_core.specs.Received.{started_for, all_closed}
 use Rattle.server_core.specs.Roles.{setting_of}
 use Rattle.run_outcomes.proofs.Telling.{undone_told}
 use Rattle.run_outcomes.proofs.stories.Story.is_undone.Goals as goal

@@ -1,6 +1,6 @@
 use Rattle.std.proofs.Common.{map, ap, ap₂, sym, ◌∙◌}
 use Rattle.std.proofs.lemmas.Result.{IfOk-weaker}
-use Rattle.server_core.specs.Replies.{refused_for}
+use Rattle.server_core.specs.Received.{refused_for}
 use Rattle.run_outcomes.proofs.Telling.{told_if_refused, told_if_voted}
 use Rattle.run_outcomes.proofs.stories.Story.told_partitions.Goals as goal
 

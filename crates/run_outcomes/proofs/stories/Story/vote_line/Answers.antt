@@ -5,7 +5,7 @@ use Rattle.deneva_base.specs.declared.causes.Cause.{Cause}
 use Rattle.deneva_base.specs.declared.numbers.Attempt.{Attempt}
 use Rattle.server_core.specs.Aborts.{is_prepare_of, is_vote_of, line_at}
 use Rattle.server_core.specs.Coordinator.{least_hi, greatest_lo}
-use Rattle.server_core.specs.Ends.{attempt}
+use Rattle.server_core.specs.AttemptEnds.{attempt}
 use Rattle.server_core.specs.declared.messages.Entry.{Entry}
 use Rattle.run_outcomes.specs.Seen.{no_of}
 use Rattle.run_outcomes.proofs.Aborting.{found_in, no_told, apart_told}

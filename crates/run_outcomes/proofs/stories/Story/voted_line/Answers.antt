@@ -1,8 +1,8 @@
 use Rattle.std.proofs.Common.{map, true, false, None, refl, ap, ap₂, sym, ◌∙◌}
 use Rattle.server_core.specs.Aborts.{vote_abort}
 use Rattle.server_core.specs.Coordinator.{first_no}
-use Rattle.server_core.specs.Ends.{attempt}
-use Rattle.server_core.specs.Replies.{started_for, all_voted, votes_for}
+use Rattle.server_core.specs.AttemptEnds.{attempt}
+use Rattle.server_core.specs.Received.{started_for, all_voted, votes_for}
 use Rattle.server_core.specs.Roles.{setting_of}
 use Rattle.run_outcomes.proofs.Aborting.{voted_told}
 use Rattle.run_outcomes.proofs.stories.Story.voted_line.Goals as goal

@@ -1,5 +1,5 @@
 use Rattle.std.proofs.Common.{◌≡◌, ◌≤◌, ◌+◌, ◌++◌, length}
-use Rattle.server_core.proofs.outbox.Outbox.put_all.Given as goal
+use Rattle.server_core.proofs.outbox.Outbox.append_all.Given as goal
 
 -- what is said with what is left is all, and there is room for that
 abbrev pub invariant-loop-mail : goal.invariant-loop-mail

@@ -2,9 +2,9 @@
 ghost use Rattle.std.specs.Prelude.{◌≡◌, IfOk, map, reverse, length, ◌==◌};
 ghost use Rattle.std.specs.List.{list_any};
 ghost use Rattle.server_core.specs.Aborts as aborts;
-ghost use Rattle.server_core.specs.Ends.{dones_for, undones_for};
-ghost use Rattle.server_core.specs.Replies as replies;
-ghost use Rattle.server_core.specs.Replies.{all_closed};
+ghost use Rattle.server_core.specs.AttemptEnds.{dones_for, undones_for};
+ghost use Rattle.server_core.specs.Received as received;
+ghost use Rattle.server_core.specs.Received.{all_closed};
 ghost use Rattle.run_outcomes.specs.Seen.{refusal_of};
 
 use deneva_base::{Attempt, Cause, Key, NoMemory, Row, Vote};
@@ -20,7 +20,7 @@ pub(crate) struct Refusal {
 
 /// Whether the attempt was begun.
 pub(crate) fn has_started(who: Attempt, messages: &[&Msg]) -> bool
-    ensures { result ≡ replies.started_for who (map (λ m. m.now) messages.now) }
+    ensures { result ≡ received.started_for who (map (λ m. m.now) messages.now) }
 {
     let [msg, before @ ..] = messages else {
         return false;
@@ -34,7 +34,7 @@ pub(crate) fn has_started(who: Attempt, messages: &[&Msg]) -> bool
 
 /// Whether an access of the attempt was refused.
 pub(crate) fn is_refused(who: Attempt, messages: &[&Msg]) -> bool
-    ensures { result ≡ replies.refused_for who (map (λ m. m.now) messages.now) }
+    ensures { result ≡ received.refused_for who (map (λ m. m.now) messages.now) }
 {
     let [msg, before @ ..] = messages else {
         return false;
@@ -69,7 +69,7 @@ pub(crate) fn grants_for<'h>(
     who: Attempt,
     messages: &[&'h Msg],
 ) -> Result<Vec<&'h Row>, NoMemory>
-    ensures { IfOk result (λ v. map (λ r. r.now) v.items ≡ map (λ r. r.row) (reverse (replies.grants_for who (map (λ m. m.now) messages.now)))) }
+    ensures { IfOk result (λ v. map (λ r. r.now) v.items ≡ map (λ r. r.row) (reverse (received.grants_for who (map (λ m. m.now) messages.now)))) }
 {
     let [msg, before @ ..] = messages else {
         return Ok(Vec::new(alloc));
@@ -90,7 +90,7 @@ pub(crate) fn votes_for(
     who: Attempt,
     messages: &[&Msg],
 ) -> Result<Vec<Ballot>, NoMemory>
-    ensures { IfOk result (λ v. v.items ≡ replies.votes_for who (map (λ m. m.now) messages.now)) }
+    ensures { IfOk result (λ v. v.items ≡ received.votes_for who (map (λ m. m.now) messages.now)) }
 {
     let [msg, before @ ..] = messages else {
         return Ok(Vec::new(alloc));

@@ -7,7 +7,7 @@ use Rattle.server_core.specs.declared.messages.Msg.{Msg}
 use Rattle.server_core.specs.declared.messages.Msg.TheVariants.{Done, Undone}
 use Rattle.server_core.specs.declared.messages.Entry.{Entry}
 use Rattle.server_core.specs.Setting.{Setting, home, participants}
-use Rattle.server_core.specs.Replies.{started_for, all_closed}
+use Rattle.server_core.specs.Received.{started_for, all_closed}
 use Rattle.server_core.specs.Coordinator.{told}
 use Rattle.server_core.specs.Runs.{heard}
 
