@@ -115,7 +115,12 @@ impl<'w> Coord<'w> {
     }
 
     /// An access is refused: later stamps are above the number that the cause names.
-    fn hear_refusal(&mut self, who: Attempt, cause: &Cause, out: &mut Outbox) -> Result<(), NoMemory>
+    fn hear_refusal(
+        &mut self,
+        who: Attempt,
+        cause: &Cause,
+        out: &mut Outbox,
+    ) -> Result<(), NoMemory>
         requires small { SmallCause cause.now }
         requires more { WithState self.old.open who.txn (λ t. t.granted < length t.accesses) }
         ensures ok { OnOk result (WithState self.old.open who.txn (λ t. Moved self.old who.txn (Some (states.refused (setting_of self.old.role) t)) (stamps.raised self.old.role.config.parts self.old.counter cause.now) self.old.next self.new)) }

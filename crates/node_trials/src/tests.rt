@@ -6,7 +6,8 @@ ghost use Rattle.txn_program.specs.Transactions.{ycsb_key};
 ghost use Rattle.server_core.specs.declared.messages.Msg.TheVariants.{Ask};
 
 use crate::scripts::{
-    AGAIN, WHO, apart_steps, mails_with_waits, mails_without_waits, meeting_steps, no, refusal_steps, vote_steps, yes,
+    AGAIN, WHO, apart_steps, mails_with_waits, mails_without_waits, meeting_steps, no,
+    refusal_steps, vote_steps, yes,
 };
 use crate::steps::Step;
 use crate::works::row;

@@ -63,13 +63,7 @@ fn ask(who: Attempt, stamp: u64, key: u32, mode: Mode) -> Msg {
 }
 
 /// The bound is 0 under every protocol but MAAT.
-fn grant(
-    alloc: Global,
-    who: Attempt,
-    key: u32,
-    letter: u8,
-    version: Number,
-) -> Result<Msg, Fail> {
+fn grant(alloc: Global, who: Attempt, key: u32, letter: u8, version: Number) -> Result<Msg, Fail> {
     let key = ycsb_key_of(key);
     let row = row_of(alloc, letter)?;
     Ok(Msg::Granted {

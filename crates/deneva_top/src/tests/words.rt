@@ -131,14 +131,20 @@ fn sevens(alloc: Global, count: usize) -> Result<String, NoMemory> {
 #[test]
 fn an_order_lists_numbers(rt: HostRuntime) -> Result<(), Fail> {
     let one = command(rt.alloc(), "replay --protocol maat --order list:0")?;
-    assert_eq!(rt; one, default_run(Protocol::Maat, listed_schedule(rt.alloc(), &[0])?));
+    assert_eq!(rt;
+        one,
+        default_run(Protocol::Maat, listed_schedule(rt.alloc(), &[0])?)
+    );
     let three = command(
         rt.alloc(),
         "replay --protocol maat --order list:2.4294967295.1",
     )?;
     assert_eq!(rt;
         three,
-        default_run(Protocol::Maat, listed_schedule(rt.alloc(), &[2, u32::MAX, 1])?)
+        default_run(
+            Protocol::Maat,
+            listed_schedule(rt.alloc(), &[2, u32::MAX, 1])?
+        )
     );
     let most = command(rt.alloc(), sevens(rt.alloc(), 1_000)?.as_str())?;
     assert_eq!(rt;
