@@ -17,6 +17,6 @@ mod stories;
 mod tests;
 mod voting;
 
-pub use runs::{least_undecided, outcome_of};
+pub use runs::{outcome_of, undecided};
 pub use serial::serial_outcome;
 pub use serial_laws::serial_outcomes_are_serial;

@@ -72,7 +72,7 @@ fn least_open(role: Role<'_>, history: &[Entry]) -> Result<Option<TxnId>, NoMemo
 }
 
 /// The least transaction that is neither decided nor given up. Of a run with nothing in flight there is none.
-pub fn least_undecided(
+pub fn undecided(
     alloc: Global,
     config: Config,
     work: &Workload,

@@ -205,7 +205,7 @@ fn a_commit_and_a_refusal(rt: HostRuntime) -> Result<(), Fail> {
 }
 
 #[test]
-fn the_least_undecided(rt: HostRuntime) -> Result<(), Fail> {
+fn the_undecided(rt: HostRuntime) -> Result<(), Fail> {
     let alloc = rt.alloc();
     let (work, history) = lock_run(alloc)?;
     assert!(rt; valid(&work));
@@ -213,23 +213,23 @@ fn the_least_undecided(rt: HostRuntime) -> Result<(), Fail> {
     assert_eq!(rt; entries.len(), 12);
     // without the Done of 1, the Undone of 2 too, or the Starts
     assert_eq!(rt;
-        least_undecided(alloc, ONE_PART, &work, &entries[..11])?,
+        undecided(alloc, ONE_PART, &work, &entries[..11])?,
         Some(TxnId(1))
     );
     assert_eq!(rt;
-        least_undecided(alloc, ONE_PART, &work, &entries[..9])?,
+        undecided(alloc, ONE_PART, &work, &entries[..9])?,
         Some(TxnId(1))
     );
     assert_eq!(rt;
-        least_undecided(alloc, ONE_PART, &work, &entries[2..])?,
+        undecided(alloc, ONE_PART, &work, &entries[2..])?,
         Some(TxnId(1))
     );
-    assert_eq!(rt; least_undecided(alloc, ONE_PART, &work, entries)?, None);
+    assert_eq!(rt; undecided(alloc, ONE_PART, &work, entries)?, None);
     let mut late = History::new(alloc);
     ask_both(alloc, &mut late)?;
     commit(&mut late)?;
     assert_eq!(rt;
-        least_undecided(alloc, ONE_PART, &work, late.as_slice())?,
+        undecided(alloc, ONE_PART, &work, late.as_slice())?,
         Some(TxnId(2))
     );
     Ok(())
@@ -307,7 +307,7 @@ fn a_global_order(rt: HostRuntime) -> Result<(), Fail> {
     reads.push(keyed_of(alloc, 2, b'r')?)?;
     assert!(rt; second.reads == reads);
     assert_eq!(rt; outcome.giveups.len() + outcome.aborts.len(), 0);
-    let open = least_undecided(alloc, TWO_PARTS, &work, history.as_slice())?;
+    let open = undecided(alloc, TWO_PARTS, &work, history.as_slice())?;
     assert_eq!(rt; open, Some(TxnId(2)));
     Ok(())
 }
