@@ -1,6 +1,6 @@
 use Rattle.std.proofs.Common.{◌≡◌, length, None}
 use Rattle.world.specs.Worlds.{in_line}
-use Rattle.world.proofs.settling.settle_said.Given as goal
+use Rattle.world.proofs.settling.settle_outbox.Given as goal
 
 abbrev pub invariant-loop-mail : goal.invariant-loop-mail
 invariant-loop-mail l = record {
