@@ -8,7 +8,7 @@ use Rattle.deneva_base.specs.declared.numbers.TxnId.{TxnId}
 use Rattle.deneva_base.specs.declared.keys.Key.{Key}
 use Rattle.deneva_base.specs.Lists.{IsIn}
 use Rattle.deneva_base.proofs.Membership.{and_parts, and_true, filter_in, in_filter, in_right}
-use Rattle.server_core.specs.ActiveList.{active, became, past, newly_taken}
+use Rattle.server_core.specs.ActiveList.{active, became, skip_while, newly_taken}
 use Rattle.server_core.specs.Calvin.{became_ready}
 use Rattle.server_core.specs.CalvinFits.{AllFit}
 use Rattle.server_core.specs.CalvinProper.{Valid}
@@ -48,11 +48,11 @@ as_far_same : {A : Type 0} (f g : A → Bool) (xs : List A) → ((x : A) → f x
 as_far_same f g [] h = refl
 as_far_same f g (x ∷ xs) h = ap₂ (λ b l. cond b (x ∷ l) []) (h x) (as_far_same f g xs h)
 
-drop_past : {A : Type 0} (f : A → Bool) (xs : List A) → drop (length (as_far f xs)) xs ≡ past f xs
+drop_past : {A : Type 0} (f : A → Bool) (xs : List A) → drop (length (as_far f xs)) xs ≡ skip_while f xs
 drop_past f [] = refl
 drop_past {A} f (x ∷ xs) = go (f x) (drop_past f xs)
   where
-    go : (b : Bool) → drop (length (as_far f xs)) xs ≡ past f xs → drop (length (cond b (x ∷ as_far f xs) [])) (x ∷ xs) ≡ cond b (past f xs) (x ∷ xs)
+    go : (b : Bool) → drop (length (as_far f xs)) xs ≡ skip_while f xs → drop (length (cond b (x ∷ as_far f xs) [])) (x ∷ xs) ≡ cond b (skip_while f xs) (x ∷ xs)
     go true next = next
     go false next = refl
 
@@ -72,11 +72,11 @@ filter_and {A} f g (x ∷ xs) = go (g x) (filter_and f g xs)
     go true next = ap (λ l. cond (f x) (x ∷ l) l) next
     go false next = next
 
-whole_list : {A : Type 0} (f : A → Bool) (xs : List A) → xs ≡ as_far f xs ++ past f xs
+whole_list : {A : Type 0} (f : A → Bool) (xs : List A) → xs ≡ as_far f xs ++ skip_while f xs
 whole_list f [] = refl
 whole_list {A} f (x ∷ xs) = go (f x) (whole_list f xs)
   where
-    go : (b : Bool) → xs ≡ as_far f xs ++ past f xs → x ∷ xs ≡ cond b (x ∷ as_far f xs) [] ++ cond b (past f xs) (x ∷ xs)
+    go : (b : Bool) → xs ≡ as_far f xs ++ skip_while f xs → x ∷ xs ≡ cond b (x ∷ as_far f xs) [] ++ cond b (skip_while f xs) (x ∷ xs)
     go true next = ap (λ l. x ∷ l) next
     go false next = refl
 
@@ -131,8 +131,8 @@ module _ (s : Setting) where
         ∙ ap {B = List TxnId} (λ n. flat_map ids_in (as_far is_some (drop n (map (batch_if s (m ∷ ms)) (slots s))))) (ap {B = ℕ} (λ (l : List (Option (List TxnId))). length l) (first_there ms (slots s)) ∙ length-map (as_far (has_batch ms) (slots s)) (batch_if s ms))
         ∙ ap (λ l. flat_map ids_in (as_far is_some l)) (drop-map (batch_if s (m ∷ ms)) (length (as_far (has_batch ms) (slots s))) (slots s))
         ∙ ap (λ l. flat_map ids_in (as_far is_some (map (batch_if s (m ∷ ms)) l))) (drop_past (has_batch ms) (slots s))
-        ∙ ap (flat_map ids_in) (first_there (m ∷ ms) (past (has_batch ms) (slots s)))
-        ∙ their_ids (m ∷ ms) (past (has_batch ms) (slots s))
+        ∙ ap (flat_map ids_in) (first_there (m ∷ ms) (skip_while (has_batch ms) (slots s)))
+        ∙ their_ids (m ∷ ms) (skip_while (has_batch ms) (slots s))
 
 module _ (s : Setting) (v : Valid s) (p : ℕ) (ms : List Msg) (fit : AllFit s p ms) (e q : ℕ) (ids : List TxnId) where
   abbrev with_it : List Msg
@@ -177,9 +177,9 @@ module _ (s : Setting) (v : Valid s) (p : ℕ) (ms : List Msg) (fit : AllFit s p
             ⊎_elim
             (λ t.
             let old : IsIn x (taken s ms) = has_in x (taken s ms) (and_parts (has_id x (taken s ms)) (participates s x p && unblocked s p ms x) t).0 in
-            let rest : List TxnId = flat_map (batch s) (past (has_batch ms) (slots s)) in
-            let whole : order s ≡ taken s ms ++ rest = ap (flat_map (batch s)) (whole_list (has_batch ms) (slots s)) ∙ flat_map-append (batch s) (as_far (has_batch ms) (slots s)) (past (has_batch ms) (slots s)) in
-            let later : IsIn x rest = as_far_in s (has_batch with_it) x (past (has_batch ms) (slots s)) i in
+            let rest : List TxnId = flat_map (batch s) (skip_while (has_batch ms) (slots s)) in
+            let whole : order s ≡ taken s ms ++ rest = ap (flat_map (batch s)) (whole_list (has_batch ms) (slots s)) ∙ flat_map-append (batch s) (as_far (has_batch ms) (slots s)) (skip_while (has_batch ms) (slots s)) in
+            let later : IsIn x rest = as_far_in s (has_batch with_it) x (skip_while (has_batch ms) (slots s)) i in
             let once = order_once s v x in
             let sum = ap {B = ℕ} (λ l. ids_of x l) whole ∙ ids-append x (taken s ms) rest in
             let one = some_ids x (taken s ms) old in

@@ -10,7 +10,7 @@ use Rattle.deneva_base.specs.declared.numbers.Number.{Number}
 use Rattle.deneva_base.specs.declared.numbers.TxnId.{TxnId}
 use Rattle.deneva_base.specs.declared.rows.Keyed.{Keyed}
 use Rattle.row_store.specs.Stores.{Seen, version_at, loaded, row_in}
-use Rattle.server_core.specs.ActiveList.{newly_taken, past}
+use Rattle.server_core.specs.ActiveList.{newly_taken, skip_while}
 use Rattle.server_core.specs.Calvin.{says, became_ready}
 use Rattle.server_core.specs.CalvinFits.{Suits, AllFit}
 use Rattle.server_core.specs.CalvinProper.{Valid}
@@ -165,7 +165,7 @@ module _ (n : CalvinNode) (ms : List Msg) (stands : CalvinStands n ms) (e q : �
   pub fresh_known : (x : TxnId) → IsIn x (newly_taken (setting_of n.role) (Batch e q ids) ms) → IsIn x (setting_of n.role).ids
   fresh_known x i =
       let s : Setting = setting_of n.role in
-      let f = flat_in (batch s) x (as_far (has_batch (Batch e q ids ∷ ms)) (past (has_batch ms) (slots s))) i in
+      let f = flat_in (batch s) x (as_far (has_batch (Batch e q ids ∷ ms)) (skip_while (has_batch ms) (slots s))) i in
       (batch_in s f.0 x f.2).0
 
   pub stands_batch : (batches : Batches) (locks : LockTable) (fresh : List TxnId) → fresh ≡ newly_taken (setting_of n.role) (Batch e q ids) ms → ((key : Key) → queue_at locks key ≡ queue_at n.locks key ++ for_key key (asked (setting_of n.role) n.role.part fresh)) → came batches ≡ slice_set (came n.batches) (e * n.role.config.parts + q) (Some ids) → AreTaken batches → CalvinStands (record { role = n.role; sequencer = n.sequencer; numbers = n.numbers; counts = n.counts; batches = batches; locks = locks; arrivals = n.arrivals; store = n.store }) (Batch e q ids ∷ ms)

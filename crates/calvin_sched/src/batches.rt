@@ -30,7 +30,7 @@ impl Batches {
     }
 
     /// The transactions of the batches that are taken when this one comes to its place.
-    pub fn taken_with(&self, place: usize, ids: &[TxnId]) -> Result<Vec<TxnId>, NoMemory>
+    pub fn fresh_ids(&self, place: usize, ids: &[TxnId]) -> Result<Vec<TxnId>, NoMemory>
         requires taken { AreTaken self.now }
         requires place { place < length (came self.now) }
         ensures { IfOk result (λ fresh. fresh.items ≡ newly place ids.now (came self.now)) }

@@ -131,7 +131,7 @@ impl<'w> CalvinNode<'w> {
     }
 
     /// The numbers of the transactions that become ready when one ends that has these accesses here.
-    pub(crate) fn freed(
+    pub(crate) fn freed_numbers(
         &self,
         ended: TxnId,
         accesses: &[Access],

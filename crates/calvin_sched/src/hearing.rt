@@ -18,7 +18,7 @@ ghost use Rattle.calvin_sched.specs.Tables.{queue_at};
 ghost use Rattle.calvin_sched.specs.Hearing.{IsFitting, SaysOn, StandsWith, StandsStill};
 
 use crate::node::CalvinNode;
-use crate::rows::put_left;
+use crate::rows::put_rows;
 use deneva_base::{Access, IdList, Keyed, NoMemory, TxnId};
 use server_core::{Mail, MailList, Msg, Outbox, SentRows};
 
@@ -53,7 +53,7 @@ impl<'w> CalvinNode<'w> {
     {
         let slot = epoch as usize * usize::from(self.role.config.parts) + usize::from(seq);
         let kept = ids.copy(self.role.alloc)?;
-        let fresh = self.batches.taken_with(slot, ids.as_slice())?;
+        let fresh = self.batches.fresh_ids(slot, ids.as_slice())?;
         let requests = self.requests_of(&fresh)?;
         self.locks.ask_all(&requests)?;
         match self.say_ready(&fresh, out) {
@@ -84,7 +84,7 @@ impl<'w> CalvinNode<'w> {
             to: self.role.home(id),
             msg: Msg::Finished { id, part, number },
         })?;
-        for number in &self.freed(id, here)? {
+        for number in &self.freed_numbers(id, here)? {
             self.push_reads(number.id, left, &mut mails)?;
         }
         Ok(mails)
@@ -108,14 +108,14 @@ impl<'w> CalvinNode<'w> {
     {
         let number = self.number(id);
         let here = self.role.accesses_here(id)?;
-        let left = self.left_here(id, part, rows.as_slice())?;
+        let left = self.rows_left(id, part, rows.as_slice())?;
         let mails = self.last_mails(id, here.as_slice(), left.as_slice())?;
         self.store.reserve(left.len())?;
         out.reserve(mails.len())?;
         self.locks.leave(id, here.as_slice());
         self.arrivals.forget(id);
-        put_left(&mut self.store, number, left);
-        out.put_all(mails);
+        put_rows(&mut self.store, number, left);
+        out.append_all(mails);
         Ok(())
     }
 

@@ -33,7 +33,7 @@ fn row_after<'a>(store: &'a Store, left: &'a [Keyed], key: Key) -> Option<&'a Ro
 }
 
 /// The rows that an effect leaves: none where it rolls back.
-fn lasting(alloc: Global, effect: Effect) -> Result<RowList, NoMemory>
+fn lasting_rows(alloc: Global, effect: Effect) -> Result<RowList, NoMemory>
     ensures { IfOk result (λ left. left ≡ leaves effect) }
 {
     let Effect {
@@ -126,12 +126,12 @@ impl<'w> CalvinNode<'w> {
     }
 
     /// The rows that the transaction leaves here, by what came for it, the last of it from `part`.
-    pub(crate) fn left_here(&self, id: TxnId, part: u8, rows: &[Keyed]) -> Result<RowList, NoMemory>
+    pub(crate) fn rows_left(&self, id: TxnId, part: u8, rows: &[Keyed]) -> Result<RowList, NoMemory>
         requires id { IsIn id (all_ids self.now.role.work.now) }
         ensures { IfOk result (λ left. left ≡ left_at (setting_of self.now.role) self.now.role.part id (collected_from (setting_of self.now.role) (rows_with (arrivals_at self.now.arrivals id) part rows.now) id)) }
     {
         let collected = self.collect(id, part, rows)?;
         let effect = self.role.effect_here(id, &collected)?;
-        lasting(self.role.alloc, effect)
+        lasting_rows(self.role.alloc, effect)
     }
 }

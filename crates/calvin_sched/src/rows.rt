@@ -13,7 +13,7 @@ use server_core::Role;
 
 /// Puts the rows that a transaction leaves into the store, which has room for them. At each key the row of the greatest
 /// number stays.
-pub(crate) fn put_left(store: &mut Store, number: Number, left: RowList)
+pub(crate) fn put_rows(store: &mut Store, number: Number, left: RowList)
     requires room { length left ≤ store.old.spare }
     ensures { (key : Key) → version_at store.new key ≡ offered (version_at store.old key) number (row_of left key) }
 {

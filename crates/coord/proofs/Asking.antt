@@ -14,7 +14,7 @@ use Rattle.server_core.specs.declared.messages.Mail.{Mail}
 use Rattle.server_core.specs.declared.messages.Msg.{Msg}
 use Rattle.server_core.specs.declared.messages.Msg.TheVariants.{Granted, Refused, Abort}
 use Rattle.server_core.specs.Coordinator.{coordinator, next_ask, prepare_to, effect_of, reads_of, bound_of, to_all, ask_of}
-use Rattle.server_core.specs.Replies.{Reply, all_voted, all_closed}
+use Rattle.server_core.specs.Received.{Reply, all_voted, all_closed}
 use Rattle.server_core.specs.Setting.{Setting, take_first, partitions_of, participants_for}
 use Rattle.server_core.specs.VotingFits.{AllFit, IsAsking}
 use Rattle.server_core.proofs.counts.Prepares.{slice_some, slice_none}

@@ -9,7 +9,7 @@ use Rattle.deneva_base.specs.Lists.{IsIn}
 use Rattle.deneva_base.specs.Partitions.{partition_of}
 use Rattle.server_core.specs.Coordinator.{reads_of}
 use Rattle.server_core.specs.Proper.{keys_in}
-use Rattle.server_core.specs.Replies.{Reply, all_voted, all_closed}
+use Rattle.server_core.specs.Received.{Reply, all_voted, all_closed}
 use Rattle.server_core.specs.declared.ballots.Ballot.{Ballot}
 use Rattle.server_core.specs.Setting.{partitions_of}
 use Rattle.server_core.proofs.lists.Parts.{parts_in}

@@ -12,7 +12,7 @@ use Rattle.deneva_base.specs.Lists.{IsIn}
 use Rattle.deneva_base.specs.Rows.{Row}
 use Rattle.txn_program.specs.Serial.{all_ids}
 use Rattle.server_core.specs.Coordinator.{coordinator, mail_start, next_start, overs}
-use Rattle.server_core.specs.Replies.{Reply}
+use Rattle.server_core.specs.Received.{Reply}
 use Rattle.server_core.specs.declared.ballots.Ballot.{Ballot}
 use Rattle.server_core.specs.Roles.{FitsRole, setting_of}
 use Rattle.server_core.specs.Setting.{Setting}

@@ -11,7 +11,7 @@ use Rattle.deneva_base.specs.declared.causes.Bound.{Bound}
 use Rattle.deneva_base.specs.declared.keys.Access.{Access}
 use Rattle.deneva_base.specs.declared.rows.Keyed.{Keyed}
 use Rattle.server_core.specs.Coordinator.{bound_of, greatest_bound, reads_of}
-use Rattle.server_core.specs.Replies.{Reply, all_voted, all_closed}
+use Rattle.server_core.specs.Received.{Reply, all_voted, all_closed}
 use Rattle.server_core.specs.declared.ballots.Ballot.{Ballot}
 use Rattle.coord.specs.Bounds.{bound_with}
 use Rattle.coord.specs.Left.{left_to_vote, left_to_close}

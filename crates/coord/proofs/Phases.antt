@@ -8,7 +8,7 @@ use Rattle.deneva_base.specs.declared.numbers.TxnId.{TxnId}
 use Rattle.deneva_base.specs.Lists.{IsIn}
 use Rattle.server_core.specs.declared.messages.Msg.{Msg}
 use Rattle.server_core.specs.Setting.{Setting, participants}
-use Rattle.server_core.specs.Replies.{votes_for, closes_for}
+use Rattle.server_core.specs.Received.{votes_for, closes_for}
 use Rattle.server_core.specs.declared.ballots.Ballot.{Ballot}
 use Rattle.server_core.specs.VotingFits.{AllFit, IsAsking, HasAll, HasVoted}
 use Rattle.server_core.proofs.values.Decisions.{asks_no_more}

@@ -12,7 +12,7 @@ use Rattle.server_core.specs.declared.messages.Msg.{Msg}
 use Rattle.server_core.specs.declared.messages.Msg.TheVariants.{Start, Ask, Yes, No}
 use Rattle.server_core.specs.Coordinator.{coordinator, ask_of, next_ask, reads_of, bound_of}
 use Rattle.server_core.specs.Proper.{Valid}
-use Rattle.server_core.specs.Replies.{votes_for, started_for}
+use Rattle.server_core.specs.Received.{votes_for, started_for}
 use Rattle.server_core.specs.Setting.{Setting}
 use Rattle.server_core.specs.Stamps.{counter, stamp_from, stamped}
 use Rattle.server_core.specs.VotingFits.{Suits, AllFit, AllUndone}

@@ -11,7 +11,7 @@ use Rattle.server_core.specs.Coordinator.{coordinator, overs, told}
 use Rattle.server_core.specs.Family.{Family, family}
 use Rattle.server_core.specs.Fits.{FitsBy}
 use Rattle.server_core.specs.Proper.{Valid}
-use Rattle.server_core.specs.Replies.{closes_for, all_closed}
+use Rattle.server_core.specs.Received.{closes_for, all_closed}
 use Rattle.server_core.specs.Setting.{Setting}
 use Rattle.server_core.specs.Small.{SmallCause}
 use Rattle.server_core.specs.Stamps.{counter, raised, stamp_from, stamped}

@@ -9,7 +9,7 @@ use Rattle.deneva_base.specs.Lists.{IsIn}
 use Rattle.server_core.specs.declared.messages.Msg.{Msg}
 use Rattle.server_core.specs.declared.messages.Msg.TheVariants.{Yes, No}
 use Rattle.server_core.specs.Coordinator.{coordinator, decision, first_no, to_all, polled}
-use Rattle.server_core.specs.Replies.{votes_for, all_closed}
+use Rattle.server_core.specs.Received.{votes_for, all_closed}
 use Rattle.server_core.specs.declared.ballots.Ballot.{Ballot}
 use Rattle.server_core.specs.Setting.{Setting, partitions_of, participants_for, participants}
 use Rattle.server_core.specs.VotingFits.{AllFit, HasAll, HasVoted}

@@ -1,5 +1,5 @@
 -- The state that the coordinator keeps of an attempt, and what a grant tells it.
-use Rattle.server_core.specs.Replies.{Reply}
+use Rattle.server_core.specs.Received.{Reply}
 use Rattle.coord.specs.declared.attempts.Attempting.{Attempting}
 use Rattle.coord.specs.declared.replies.Grant.{Grant}
 use Rattle.coord.specs.States.{State}

@@ -7,7 +7,7 @@ use Rattle.deneva_base.specs.declared.numbers.TxnId.{TxnId}
 use Rattle.server_core.specs.declared.messages.Msg.{Msg}
 use Rattle.server_core.specs.declared.messages.Msg.TheVariants.{Commit, Abort}
 use Rattle.server_core.specs.Coordinator.{decision, first_no, reads_of, bound_of}
-use Rattle.server_core.specs.Replies.{Reply, grants_for, votes_for, refused_for, closes_for, started_for, all_voted, all_closed}
+use Rattle.server_core.specs.Received.{Reply, grants_for, votes_for, refused_for, closes_for, started_for, all_voted, all_closed}
 use Rattle.server_core.specs.declared.ballots.Ballot.{Ballot}
 use Rattle.server_core.specs.Setting.{Setting, take_first, partitions_of, participants_for}
 use Rattle.server_core.specs.Stamps.{stamp_from, stamped}

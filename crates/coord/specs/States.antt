@@ -9,7 +9,7 @@ use Rattle.deneva_base.specs.Rows.{Row}
 use Rattle.server_core.specs.declared.messages.Mail.{Mail}
 use Rattle.server_core.specs.declared.messages.Msg.TheVariants.{Start, Abort}
 use Rattle.server_core.specs.Coordinator.{ask_of, prepare_to, to_all, decision, first_no}
-use Rattle.server_core.specs.Replies.{Reply}
+use Rattle.server_core.specs.Received.{Reply}
 use Rattle.server_core.specs.declared.ballots.Ballot.{Ballot}
 use Rattle.server_core.specs.Setting.{Setting, take_first, partitions_of}
 use Rattle.coord.specs.Bounds.{bound_with}

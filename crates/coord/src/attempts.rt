@@ -3,7 +3,7 @@ ghost use Rattle.std.specs.Prelude.{◌≡◌, ◌++◌, ◌<◌, ◌≤◌, ◌
 ghost use Rattle.std.specs.List.{list_all};
 ghost use Rattle.deneva_base.specs.Lists.{IsIn};
 ghost use Rattle.txn_program.specs.Serial.{all_ids};
-ghost use Rattle.server_core.specs.Replies.{Reply};
+ghost use Rattle.server_core.specs.Received.{Reply};
 ghost use Rattle.server_core.specs.Roles.{setting_of};
 ghost use Rattle.coord.specs.Attempts.{state_of, reply_of};
 ghost use Rattle.coord.specs.States as states;
@@ -125,7 +125,7 @@ impl Attempting {
     }
 
     /// The access that it asked for is granted.
-    pub fn granted(
+    pub fn hear_grant(
         &mut self,
         role: &Role<'_>,
         who: Attempt,
@@ -154,7 +154,7 @@ impl Attempting {
     }
 
     /// It is refused: it aborts where it has asked.
-    pub fn refused(
+    pub fn hear_refusal(
         &mut self,
         role: &Role<'_>,
         who: Attempt,
@@ -204,7 +204,7 @@ impl Attempting {
     }
 
     /// A participant votes: the last vote decides.
-    pub fn voted(
+    pub fn hear_vote(
         &mut self,
         role: &Role<'_>,
         who: Attempt,
@@ -231,7 +231,7 @@ impl Attempting {
     }
 
     /// It has ended at a partition.
-    pub fn closed(&mut self, part: u8)
+    pub fn close_at(&mut self, part: u8)
         ensures { state_of self.new ≡ with_left (without part self.old.left.items) (state_of self.old) }
     {
         take_out(&mut self.left, part);

@@ -19,7 +19,7 @@ ghost use Rattle.coord.specs.States.{if_none_left, undone_mails, refused_mails, 
 ghost use Rattle.server_core.specs.Hearing.{IsFitting, StandsWith, StandsStill};
 
 use crate::attempts::Attempting;
-use crate::counters::{raised, stamp_of};
+use crate::counters::{counter_after, stamp_of};
 use crate::open::OpenTxns;
 use crate::replies::Grant;
 use crate::saying::{ask_mail, say_start};
@@ -105,17 +105,22 @@ impl<'w> Coord<'w> {
         let first = *accesses.get(0);
         out.reserve(1)?;
         let counter = self.counter + u64::from(self.draws(who));
-        self.open.put(
+        self.open.insert(
             who.txn,
             Attempting::new(role.alloc, who.turn, stamp, accesses),
         )?;
         self.counter = counter;
-        out.put(ask_mail(&role, who, stamp, first));
+        out.append(ask_mail(&role, who, stamp, first));
         Ok(())
     }
 
     /// An access is refused: later stamps are above the number that the cause names.
-    fn refused(&mut self, who: Attempt, cause: &Cause, out: &mut Outbox) -> Result<(), NoMemory>
+    fn hear_refusal(
+        &mut self,
+        who: Attempt,
+        cause: &Cause,
+        out: &mut Outbox,
+    ) -> Result<(), NoMemory>
         requires small { SmallCause cause.now }
         requires more { WithState self.old.open who.txn (λ t. t.granted < length t.accesses) }
         ensures ok { OnOk result (WithState self.old.open who.txn (λ t. Moved self.old who.txn (Some (states.refused (setting_of self.old.role) t)) (stamps.raised self.old.role.config.parts self.old.counter cause.now) self.old.next self.new)) }
@@ -124,8 +129,8 @@ impl<'w> Coord<'w> {
         ensures same_mails { OnErr result (out.new.mails ≡ out.old.mails) }
         ensures role { self.new.role ≡ self.old.role }
     {
-        self.open.refused(&self.role, who, out)?;
-        self.counter = raised(self.role.config.parts, self.counter, cause);
+        self.open.hear_refusal(&self.role, who, out)?;
+        self.counter = counter_after(self.role.config.parts, self.counter, cause);
         Ok(())
     }
 
@@ -157,7 +162,7 @@ impl<'w> Coord<'w> {
     }
 
     /// An attempt has committed at a partition.
-    fn done(&mut self, who: Attempt, part: u8, out: &mut Outbox) -> Result<(), NoMemory>
+    fn hear_done(&mut self, who: Attempt, part: u8, out: &mut Outbox) -> Result<(), NoMemory>
         requires next { self.old.next < 2 ^ 63 }
         ensures ok { OnOk result (WithState self.old.open who.txn (λ t. Moved self.old who.txn (states.done part t) self.old.counter (risen true self.old.next (without part t.left)) self.new)) }
         ensures said { OnOk result (WithState self.old.open who.txn (λ t. out.new.mails ≡ out.old.mails ++ if_none_left (mail_start self.old.role.part (slice_get self.old.homes.items self.old.next)) (without part t.left))) }
@@ -168,12 +173,12 @@ impl<'w> Coord<'w> {
         if self.open.is_last(who.txn, part) {
             return self.end(who.txn, out);
         }
-        self.open.closed(who.txn, part);
+        self.open.close_at(who.txn, part);
         Ok(())
     }
 
     /// An attempt has aborted at a partition.
-    fn undone(&mut self, who: Attempt, part: u8, out: &mut Outbox) -> Result<(), NoMemory>
+    fn hear_undone(&mut self, who: Attempt, part: u8, out: &mut Outbox) -> Result<(), NoMemory>
         requires next { self.old.next < 2 ^ 63 }
         ensures ok { OnOk result (WithState self.old.open who.txn (λ t. Moved self.old who.txn (states.undone (setting_of self.old.role) who part t) self.old.counter (risen (not (nat_lt who.turn self.old.role.config.attempts)) self.old.next (without part t.left)) self.new)) }
         ensures said { OnOk result (WithState self.old.open who.txn (λ t. out.new.mails ≡ out.old.mails ++ if_none_left (undone_mails (setting_of self.old.role) self.old.role.part who (mail_start self.old.role.part (slice_get self.old.homes.items self.old.next))) (without part t.left))) }
@@ -182,7 +187,7 @@ impl<'w> Coord<'w> {
         ensures role { self.new.role ≡ self.old.role }
     {
         if !self.open.is_last(who.txn, part) {
-            self.open.closed(who.txn, part);
+            self.open.close_at(who.txn, part);
             return Ok(());
         }
         if who.turn >= self.role.config.attempts {
@@ -190,7 +195,7 @@ impl<'w> Coord<'w> {
         }
         let turn = who.turn + 1;
         say_start(self.role.part, Attempt { txn: who.txn, turn }, out)?;
-        self.open.closed(who.txn, part);
+        self.open.close_at(who.txn, part);
         Ok(())
     }
 
@@ -218,21 +223,21 @@ impl<'w> Coord<'w> {
                     row,
                     bound: *bound,
                 };
-                self.open.granted(&self.role, *who, grant, out)
+                self.open.hear_grant(&self.role, *who, grant, out)
             }
-            Msg::Refused { who, cause, .. } => self.refused(*who, cause, out),
+            Msg::Refused { who, cause, .. } => self.hear_refusal(*who, cause, out),
             Msg::Yes { who, part, lo, hi } => {
                 let vote = Vote::Yes { lo: *lo, hi: *hi };
                 self.open
-                    .voted(&self.role, *who, Ballot { part: *part, vote }, out)
+                    .hear_vote(&self.role, *who, Ballot { part: *part, vote }, out)
             }
             Msg::No { who, part, cause } => {
                 let vote = Vote::No(*cause);
                 self.open
-                    .voted(&self.role, *who, Ballot { part: *part, vote }, out)
+                    .hear_vote(&self.role, *who, Ballot { part: *part, vote }, out)
             }
-            Msg::Done { who, part } => self.done(*who, *part, out),
-            Msg::Undone { who, part } => self.undone(*who, *part, out),
+            Msg::Done { who, part } => self.hear_done(*who, *part, out),
+            Msg::Undone { who, part } => self.hear_undone(*who, *part, out),
             _ => Ok(()),
         }
     }

@@ -6,7 +6,7 @@ ghost use Rattle.server_core.specs.Stamps as stamps;
 use deneva_base::Cause;
 
 /// The counter of stamps after a refusal with this cause.
-pub(crate) fn raised(parts: u8, counter: u64, cause: &Cause) -> u64
+pub(crate) fn counter_after(parts: u8, counter: u64, cause: &Cause) -> u64
     requires parts { 1 ≤ parts }
     requires small { SmallCause cause.now }
     ensures { result ≡ stamps.raised parts counter cause.now }

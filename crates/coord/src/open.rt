@@ -43,7 +43,7 @@ impl OpenTxns {
     }
 
     /// Opens a transaction, or has it go on with a new attempt.
-    pub fn put(&mut self, id: TxnId, attempt: Attempting) -> Result<(), NoMemory>
+    pub fn insert(&mut self, id: TxnId, attempt: Attempting) -> Result<(), NoMemory>
         ensures ok { OnOk result (SetsState self.old id (Some (state_of attempt)) self.new) }
         ensures err { OnErr result (SameStates self.old self.new) }
     {
@@ -59,7 +59,7 @@ impl OpenTxns {
     }
 
     /// The access that the attempt asked for is granted.
-    pub fn granted(
+    pub fn hear_grant(
         &mut self,
         role: &Role<'_>,
         who: Attempt,
@@ -73,13 +73,13 @@ impl OpenTxns {
         ensures same_mails { OnErr result (out.new.mails ≡ out.old.mails) }
     {
         match self.attempts.get_mut(&who.txn) {
-            Some(attempt) => attempt.granted(role, who, grant, out),
+            Some(attempt) => attempt.hear_grant(role, who, grant, out),
             None => Ok(()),
         }
     }
 
     /// It is refused.
-    pub fn refused(
+    pub fn hear_refusal(
         &mut self,
         role: &Role<'_>,
         who: Attempt,
@@ -92,13 +92,13 @@ impl OpenTxns {
         ensures same_mails { OnErr result (out.new.mails ≡ out.old.mails) }
     {
         match self.attempts.get_mut(&who.txn) {
-            Some(attempt) => attempt.refused(role, who, out),
+            Some(attempt) => attempt.hear_refusal(role, who, out),
             None => Ok(()),
         }
     }
 
     /// A participant votes.
-    pub fn voted(
+    pub fn hear_vote(
         &mut self,
         role: &Role<'_>,
         who: Attempt,
@@ -111,7 +111,7 @@ impl OpenTxns {
         ensures same_mails { OnErr result (out.new.mails ≡ out.old.mails) }
     {
         match self.attempts.get_mut(&who.txn) {
-            Some(attempt) => attempt.voted(role, who, ballot, out),
+            Some(attempt) => attempt.hear_vote(role, who, ballot, out),
             None => Ok(()),
         }
     }
@@ -127,11 +127,11 @@ impl OpenTxns {
     }
 
     /// It has ended at this partition.
-    pub fn closed(&mut self, id: TxnId, part: u8)
+    pub fn close_at(&mut self, id: TxnId, part: u8)
         ensures { WithState self.old id (λ t. SetsState self.old id (Some (with_left (without part t.left) t)) self.new) }
     {
         if let Some(attempt) = self.attempts.get_mut(&id) {
-            attempt.closed(part);
+            attempt.close_at(part);
         }
     }
 }

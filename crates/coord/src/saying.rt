@@ -41,7 +41,7 @@ pub(crate) fn say_to_all(
 {
     out.reserve(participants.len())?;
     for participant in participants {
-        out.put(Mail {
+        out.append(Mail {
             from,
             to: *participant,
             msg: ending.message(who),
@@ -79,7 +79,7 @@ pub(crate) fn say_start(part: u8, who: Attempt, out: &mut Outbox) -> Result<(), 
 }
 
 /// The rows at a participant that last under a verdict: none if the attempt rolls back.
-fn lasting_at(
+fn lasting_rows_at(
     role: &Role<'_>,
     participant: u8,
     verdict: Verdict,
@@ -103,8 +103,8 @@ fn prepare(
 ) -> Result<Mail, NoMemory>
     ensures { IfOk result (λ mail. mail ≡ prepare_to (setting_of role.now) role.now.part who bound effect.now participant) }
 {
-    let writes = lasting_at(role, participant, effect.verdict, &effect.writes)?;
-    let appends = lasting_at(role, participant, effect.verdict, &effect.appends)?;
+    let writes = lasting_rows_at(role, participant, effect.verdict, &effect.writes)?;
+    let appends = lasting_rows_at(role, participant, effect.verdict, &effect.appends)?;
     Ok(Mail {
         from: role.part,
         to: participant,

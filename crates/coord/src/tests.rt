@@ -78,7 +78,7 @@ fn two_reads_of(alloc: Global, a: u32, b: u32) -> Result<Workload, NoMemory>
 }
 
 /// Has the coordinator handle these messages.
-fn play(coord: &mut Coord, msgs: &[Msg], out: &mut Outbox) -> Result<(), NoMemory>
+fn handle_all(coord: &mut Coord, msgs: &[Msg], out: &mut Outbox) -> Result<(), NoMemory>
     requires { (ms : List messages.Msg) × (Coordinates coord.old ms × FitInTurn (role_of coord.old) ms msgs.now) }
 {
     for msg in msgs {
@@ -88,7 +88,7 @@ fn play(coord: &mut Coord, msgs: &[Msg], out: &mut Outbox) -> Result<(), NoMemor
 }
 
 /// What node 1 of three says where its first transaction is refused at both of its turns, by writes of these numbers.
-fn said(alloc: Global, limit: u8) -> Result<Outbox, NoMemory>
+fn mails_of_refusals(alloc: Global, limit: u8) -> Result<Outbox, NoMemory>
     requires some { 1 ≤ limit }
     requires few { limit ≤ 64 }
 {
@@ -131,7 +131,7 @@ fn said(alloc: Global, limit: u8) -> Result<Outbox, NoMemory>
             part: 1,
         },
     ];
-    play(&mut coord, &msgs, &mut out)?;
+    handle_all(&mut coord, &msgs, &mut out)?;
     Ok(out)
 }
 
@@ -154,8 +154,8 @@ fn a_refused_transaction_restarts_and_is_given_up(rt: HostRuntime) -> Result<(),
         Msg::Abort { who: attempt(1, 2) },
         Msg::Start { who: attempt(2, 1) },
     ];
-    let one_open = said(alloc, 1)?;
-    let two_open = said(alloc, 2)?;
+    let one_open = mails_of_refusals(alloc, 1)?;
+    let two_open = mails_of_refusals(alloc, 2)?;
     assert_eq!(rt; one_open.len(), 6);
     assert_eq!(rt; two_open.len(), 5);
     for (place, msg) in expected.into_iter().enumerate() {

@@ -17,7 +17,7 @@ fn tell(role: &Role<'_>, who: Attempt, msg: Msg, out: &mut Outbox)
     ensures spare { out.new.spare + 1 ≡ out.old.spare }
 {
     let to = role.home(who.txn);
-    out.put(Mail {
+    out.append(Mail {
         from: role.part,
         to,
         msg,

@@ -5,8 +5,9 @@ ghost use Rattle.deneva_base.specs.declared.keys.Mode.TheVariants.{Update};
 ghost use Rattle.txn_program.specs.Transactions.{ycsb_key};
 ghost use Rattle.server_core.specs.declared.messages.Msg.TheVariants.{Ask};
 
-use crate::asked::{
-    AGAIN, WHO, apart, meeting, no, refused, said_with_waits, said_without_waits, voted, yes,
+use crate::scripts::{
+    AGAIN, WHO, apart_steps, mails_with_waits, mails_without_waits, meeting_steps, no,
+    refusal_steps, vote_steps, yes,
 };
 use crate::steps::Step;
 use crate::works::row;
@@ -40,7 +41,7 @@ fn mail(to: u8, msg: Msg) -> Mail {
 }
 
 /// What transaction 1 writes to the rows of these numbers.
-fn written(alloc: Global, numbers: &[u32]) -> Result<RowList, NoMemory> {
+fn written_rows(alloc: Global, numbers: &[u32]) -> Result<RowList, NoMemory> {
     let mut rows = RowList::new(alloc);
     for number in numbers {
         let mut cells = CellList::new(alloc);
@@ -61,13 +62,13 @@ fn prepare(alloc: Global, numbers: &[u32]) -> Result<Msg, NoMemory> {
             n: 0,
             key: ycsb_key_of(0),
         },
-        writes: written(alloc, numbers)?,
+        writes: written_rows(alloc, numbers)?,
         appends: RowList::new(alloc),
     })
 }
 
 /// A grant of the row of key 0, as it was loaded.
-fn loaded(alloc: Global, who: Attempt) -> Result<Msg, NoMemory> {
+fn initial_grant(alloc: Global, who: Attempt) -> Result<Msg, NoMemory> {
     let keyed = row(alloc, 0)?;
     Ok(Msg::Granted {
         who,
@@ -97,7 +98,7 @@ fn aborted_mails(alloc: Global) -> Result<Vec<Mail>, NoMemory> {
     Ok(mails)
 }
 
-fn are(out: &Outbox, mails: &[Mail]) -> bool {
+fn has_mails(out: &Outbox, mails: &[Mail]) -> bool {
     if out.len() != mails.len() {
         return false;
     }
@@ -112,7 +113,7 @@ fn are(out: &Outbox, mails: &[Mail]) -> bool {
 #[test]
 fn windows_that_meet_commit_with_the_least_number(rt: HostRuntime) -> Result<(), Fail> {
     let alloc = rt.alloc();
-    let steps = meeting(alloc)?;
+    let steps = meeting_steps(alloc)?;
     let number = Number { n: 5, id: TxnId(1) };
     let next = Attempt {
         txn: TxnId(3),
@@ -122,48 +123,48 @@ fn windows_that_meet_commit_with_the_least_number(rt: HostRuntime) -> Result<(),
     mails.push(mail(0, Msg::Commit { who: WHO, number }))?;
     mails.push(mail(1, Msg::Commit { who: WHO, number }))?;
     mails.push(mail(0, Msg::Start { who: next }))?;
-    assert!(rt; are(&said_without_waits(alloc, &steps)?, &mails));
+    assert!(rt; has_mails(&mails_without_waits(alloc, &steps)?, &mails));
     Ok(())
 }
 
 #[test]
 fn windows_apart_abort_and_a_restart_keeps_its_stamp(rt: HostRuntime) -> Result<(), Fail> {
     let alloc = rt.alloc();
-    let steps = apart(alloc)?;
+    let steps = apart_steps(alloc)?;
     let mut mails = aborted_mails(alloc)?;
     mails.push(mail(0, Msg::Start { who: AGAIN }))?;
     mails.push(mail(0, ask(AGAIN, 1, 0)))?;
-    assert!(rt; are(&said_without_waits(alloc, &steps)?, &mails));
+    assert!(rt; has_mails(&mails_without_waits(alloc, &steps)?, &mails));
     Ok(())
 }
 
 #[test]
 fn one_no_aborts(rt: HostRuntime) -> Result<(), Fail> {
     let alloc = rt.alloc();
-    let steps = voted(alloc, yes(0, 1, 9), no(1))?;
-    assert!(rt; are(&said_without_waits(alloc, &steps)?, &aborted_mails(alloc)?));
+    let steps = vote_steps(alloc, yes(0, 1, 9), no(1))?;
+    assert!(rt; has_mails(&mails_without_waits(alloc, &steps)?, &aborted_mails(alloc)?));
     Ok(())
 }
 
 #[test]
 fn two_noes_abort(rt: HostRuntime) -> Result<(), Fail> {
     let alloc = rt.alloc();
-    let steps = voted(alloc, no(0), no(1))?;
-    assert!(rt; are(&said_without_waits(alloc, &steps)?, &aborted_mails(alloc)?));
+    let steps = vote_steps(alloc, no(0), no(1))?;
+    assert!(rt; has_mails(&mails_without_waits(alloc, &steps)?, &aborted_mails(alloc)?));
     Ok(())
 }
 
 #[test]
 fn a_refusal_aborts_where_it_asked(rt: HostRuntime) -> Result<(), Fail> {
     let alloc = rt.alloc();
-    let steps = refused(alloc)?;
+    let steps = refusal_steps(alloc)?;
     let mut mails = Vec::new(alloc);
     mails.push(mail(0, ask(WHO, 1, 0)))?;
     mails.push(mail(1, ask(WHO, 1, 1)))?;
     mails.push(mail(0, ask(WHO, 1, 2)))?;
     mails.push(mail(0, Msg::Abort { who: WHO }))?;
     mails.push(mail(1, Msg::Abort { who: WHO }))?;
-    assert!(rt; are(&said_without_waits(alloc, &steps)?, &mails));
+    assert!(rt; has_mails(&mails_without_waits(alloc, &steps)?, &mails));
     Ok(())
 }
 
@@ -186,9 +187,9 @@ fn an_older_transaction_waits_and_is_woken(rt: HostRuntime) -> Result<(), Fail> 
         },
     ];
     let mut mails = Vec::new(alloc);
-    mails.push(mail(0, loaded(alloc, WHO)?))?;
+    mails.push(mail(0, initial_grant(alloc, WHO)?))?;
     mails.push(mail(0, Msg::Undone { who: WHO, part: 0 }))?;
-    mails.push(mail(1, loaded(alloc, OTHER)?))?;
-    assert!(rt; are(&said_with_waits(alloc, &steps)?, &mails));
+    mails.push(mail(1, initial_grant(alloc, OTHER)?))?;
+    assert!(rt; has_mails(&mails_with_waits(alloc, &steps)?, &mails));
     Ok(())
 }

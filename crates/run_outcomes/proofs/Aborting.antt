@@ -8,8 +8,8 @@ use Rattle.deneva_base.specs.declared.numbers.Attempt.{Attempt}
 use Rattle.deneva_base.specs.declared.numbers.TxnId.{TxnId}
 use Rattle.server_core.specs.Aborts.{Refusal, is_ask_of, is_prepare_of, is_vote_of, newest, line_at, refusal_for, apart_of, vote_abort, abort_lines, turns}
 use Rattle.server_core.specs.Coordinator.{first_no, greatest_lo, least_hi}
-use Rattle.server_core.specs.Ends.{attempt, at_home}
-use Rattle.server_core.specs.Replies.{votes_for, started_for, all_voted}
+use Rattle.server_core.specs.AttemptEnds.{attempt, at_home}
+use Rattle.server_core.specs.Received.{votes_for, started_for, all_voted}
 use Rattle.server_core.specs.declared.ballots.Ballot.{Ballot}
 use Rattle.server_core.specs.Setting.{Setting, home}
 use Rattle.server_core.specs.declared.messages.Entry.{Entry}

@@ -5,9 +5,9 @@ use Rattle.deneva_base.specs.declared.answers.Vote.TheVariants.{Yes as VotesYes,
 use Rattle.deneva_base.specs.declared.numbers.Attempt.{Attempt}
 use Rattle.deneva_base.specs.declared.numbers.TxnId.{TxnId}
 use Rattle.server_core.specs.Aborts.{refusal_for, newest}
-use Rattle.server_core.specs.Ends.{dones_for, undones_for}
+use Rattle.server_core.specs.AttemptEnds.{dones_for, undones_for}
 use Rattle.server_core.specs.Lines.{n_in, committed_n}
-use Rattle.server_core.specs.Replies.{grants_for, votes_for, refused_for, started_for}
+use Rattle.server_core.specs.Received.{grants_for, votes_for, refused_for, started_for}
 use Rattle.server_core.specs.Runs.{heard}
 use Rattle.server_core.specs.declared.messages.Entry.{Entry}
 use Rattle.server_core.specs.declared.messages.Msg.{Msg}

@@ -8,10 +8,10 @@ use Rattle.deneva_base.specs.declared.keys.Access.{Access}
 use Rattle.deneva_base.specs.declared.numbers.Attempt.{Attempt}
 use Rattle.deneva_base.specs.declared.rows.Keyed.{Keyed}
 use Rattle.server_core.specs.Coordinator.{asked_partitions, told, reads_of}
-use Rattle.server_core.specs.Ends as ends
-use Rattle.server_core.specs.Ends.{attempt, at_home, dones_for, undones_for}
+use Rattle.server_core.specs.AttemptEnds as ends
+use Rattle.server_core.specs.AttemptEnds.{attempt, at_home, dones_for, undones_for}
 use Rattle.server_core.specs.Lines.{committed_n, decided_as, line_of}
-use Rattle.server_core.specs.Replies.{Reply, grants_for, refused_for, started_for, all_closed}
+use Rattle.server_core.specs.Received.{Reply, grants_for, refused_for, started_for, all_closed}
 use Rattle.server_core.specs.Runs.{heard}
 use Rattle.server_core.specs.Setting.{home, participants_for, take_first}
 use Rattle.server_core.specs.declared.messages.Entry.{Entry}

@@ -12,7 +12,7 @@ use Rattle.txn_program.specs.Serial.{ids_from, all_ids}
 use Rattle.txn_program.specs.declared.programs.Program.{Program}
 use Rattle.txn_program.specs.declared.programs.Workload.{Workload}
 use Rattle.protocol_rules.specs.Protocols.{IsVoting}
-use Rattle.server_core.specs.Ends.{attempt, done_turn, all_undone}
+use Rattle.server_core.specs.AttemptEnds.{attempt, done_turn, all_undone}
 use Rattle.server_core.specs.IsSerial.{IsDecided, IsGivenUp}
 use Rattle.server_core.specs.Lines.{line_of, line_if, lines, sort_lines, giveups_of}
 use Rattle.server_core.specs.Outcome.{outcome, outcome_in, outcome_with}

@@ -1,7 +1,7 @@
 -- What an outcome has of each transaction.
 use Rattle.std.specs.Prelude.{List, [], ◌∷◌, if◌then◌else◌}
 use Rattle.deneva_base.specs.declared.numbers.TxnId.{TxnId}
-use Rattle.server_core.specs.Ends.{attempt, all_undone, done_turn}
+use Rattle.server_core.specs.AttemptEnds.{attempt, all_undone, done_turn}
 use Rattle.server_core.specs.Lines.{line_if}
 use Rattle.server_core.specs.Setting.{Setting}
 use Rattle.server_core.specs.declared.messages.Entry.{Entry}

@@ -7,7 +7,7 @@ use Rattle.server_core.specs.Coordinator.{lo_of, hi_of}
 use Rattle.run_outcomes.specs.declared.ballots.End.{End}
 use Rattle.run_outcomes.specs.declared.ballots.End.TheVariants.{Lo, Hi}
 use Rattle.run_outcomes.specs.declared.ballots.No.{No}
-use Rattle.run_outcomes.specs.declared.replies.Refusal.{Refusal}
+use Rattle.run_outcomes.specs.declared.received.Refusal.{Refusal}
 
 abbrev pub refusal_of : Option Refusal → Option aborts.Refusal
 refusal_of None = None

@@ -3,15 +3,15 @@ ghost use Rattle.std.specs.Prelude.{◌≡◌, ◌&&◌, ◌++◌, List, Some, N
 ghost use Rattle.std.specs.List.{find};
 ghost use Rattle.server_core.specs.Aborts as aborts;
 ghost use Rattle.server_core.specs.Coordinator as coordinator;
-ghost use Rattle.server_core.specs.Ends as ends;
+ghost use Rattle.server_core.specs.AttemptEnds as ends;
 ghost use Rattle.server_core.specs.declared.messages.Entry as messages;
 ghost use Rattle.run_outcomes.specs.Seen.{refusal_of};
 ghost use Rattle.server_core.specs.Roles.{setting_of};
 ghost use Rattle.run_outcomes.specs.Stories.{Tells};
 ghost use Rattle.server_core.specs.declared.role.Role as roles;
 
-use crate::ballots::{all_voted, apart, first_no};
-use crate::replies::{Refusal, refusal_for, started_for, votes_for};
+use crate::ballots::{all_voted, apart_cause, first_no};
+use crate::received::{Refusal, has_started, refusal_for, votes_for};
 use crate::stories::Story;
 use deneva_base::{Attempt, Cause, Key, NoMemory};
 use server_core::{AbortLine, AbortList, Ballot, Entry, Msg, Role, greatest_lo, least_hi};
@@ -108,7 +108,7 @@ impl Story<'_> {
             None if least_hi(ballots) < greatest_lo(ballots) => {
                 line_at(
                     who,
-                    apart(ballots),
+                    apart_cause(ballots),
                     newest_vote(who, self.home, &self.entries),
                 )
             }
@@ -121,7 +121,7 @@ impl Story<'_> {
         ensures { IfOk result (λ line. (H : List messages.Entry) → Tells role.entry H self.now → option_to_list line ≡ aborts.abort_lines (setting_of role.entry) H (ends.attempt self.now.id turn) None) }
     {
         let who = self.attempt(turn);
-        if !started_for(who, &self.messages) {
+        if !has_started(who, &self.messages) {
             return Ok(None);
         }
         let ballots = votes_for(role.alloc, who, &self.messages)?;

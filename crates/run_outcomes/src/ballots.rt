@@ -3,7 +3,7 @@ ghost use Rattle.std.specs.Prelude.{◌≡◌, true, ◌==◌};
 ghost use Rattle.std.specs.List.{list_any};
 ghost use Rattle.server_core.specs.Aborts as aborts;
 ghost use Rattle.server_core.specs.Coordinator as coordinator;
-ghost use Rattle.server_core.specs.Replies as replies;
+ghost use Rattle.server_core.specs.Received as received;
 ghost use Rattle.run_outcomes.specs.Seen.{no_of, end_of};
 
 use deneva_base::{Cause, Vote};
@@ -49,7 +49,7 @@ fn has_voted(ballots: &[Ballot], part: u8) -> bool
 
 /// Whether each of these partitions has voted.
 pub(crate) fn all_voted(ballots: &[Ballot], parts: &[u8]) -> bool
-    ensures { result ≡ replies.all_voted ballots.now parts.now }
+    ensures { result ≡ received.all_voted ballots.now parts.now }
 {
     match parts {
         [] => true,
@@ -105,7 +105,7 @@ fn least_part(end: End, number: u64, ballots: &[Ballot]) -> Option<u8>
 }
 
 /// Why an attempt is aborted on these votes, whose windows do not meet.
-pub(crate) fn apart(ballots: &[Ballot]) -> Cause
+pub(crate) fn apart_cause(ballots: &[Ballot]) -> Cause
     ensures { result ≡ aborts.apart_of ballots.now }
 {
     let lo = greatest_lo(ballots);

@@ -1,7 +1,7 @@
 //! The lines of decided transactions.
 ghost use Rattle.std.specs.Prelude.{◌≡◌, ◌++◌, List, map, IfOk, OnOk, option_to_list};
 ghost use Rattle.server_core.specs.Coordinator as coordinator;
-ghost use Rattle.server_core.specs.Ends.{attempt};
+ghost use Rattle.server_core.specs.AttemptEnds.{attempt};
 ghost use Rattle.server_core.specs.Lines as listed;
 ghost use Rattle.server_core.specs.declared.messages.Entry as messages;
 ghost use Rattle.run_outcomes.specs.ByTransaction.{lines_for};
@@ -9,7 +9,7 @@ ghost use Rattle.run_outcomes.specs.GrantedRows.{reply_of};
 ghost use Rattle.server_core.specs.Roles.{setting_of};
 ghost use Rattle.run_outcomes.specs.Stories.{Tells};
 
-use crate::replies::grants_for;
+use crate::received::grants_for;
 use crate::stories::Story;
 use deneva_base::{Access, Attempt, Copied, Keyed, NoMemory, Number, Row, RowList};
 use server_core::{Decided, Entry, Msg, Role};
@@ -49,7 +49,7 @@ fn push_reads(reads: &mut RowList, accesses: &[Access], rows: &[&Row]) -> Result
 
 impl Story<'_> {
     /// The line of the transaction, decided with this number on what it read.
-    pub(crate) fn decided_as(
+    pub(crate) fn decided_line(
         &self,
         role: Role<'_>,
         n: u64,
@@ -81,7 +81,7 @@ impl Story<'_> {
         let mut reads = RowList::new(role.alloc);
         push_reads(&mut reads, self.accesses.as_slice(), &rows)?;
         let n = committed_n(who, &self.entries);
-        let line = self.decided_as(role, n, reads)?;
+        let line = self.decided_line(role, n, reads)?;
         Ok(line)
     }
 

@@ -1,14 +1,14 @@
 //! How the attempts of a transaction ended.
 ghost use Rattle.std.specs.Prelude.{◌≡◌, List, IfOk, option_map, option_to_list};
 ghost use Rattle.server_core.specs.Coordinator as coordinator;
-ghost use Rattle.server_core.specs.Ends as ends;
+ghost use Rattle.server_core.specs.AttemptEnds as ends;
 ghost use Rattle.server_core.specs.declared.messages.Entry as messages;
 ghost use Rattle.run_outcomes.specs.ByTransaction.{giveups_for};
 ghost use Rattle.server_core.specs.Roles.{setting_of};
 ghost use Rattle.run_outcomes.specs.Stories.{Tells};
 ghost use Rattle.server_core.specs.declared.role.Role as roles;
 
-use crate::replies::{all_done, all_undone, grants_for, refused_for, started_for};
+use crate::received::{all_done, all_undone, grants_for, has_started, is_refused};
 use crate::stories::Story;
 use deneva_base::{Attempt, ByteList, NoMemory};
 use server_core::{Giveup, Role};
@@ -26,7 +26,7 @@ impl Story<'_> {
         ensures { (r : roles.Role) (H : List messages.Entry) → Tells r H self.now → result ≡ ends.all_done (setting_of r) H (ends.attempt self.now.id turn) }
     {
         let who = self.attempt(turn);
-        started_for(who, &self.messages)
+        has_started(who, &self.messages)
             && all_done(who, self.participants.as_slice(), &self.messages)
     }
 
@@ -44,7 +44,7 @@ impl Story<'_> {
     }
 
     /// The partitions that the attempt of this turn has asked.
-    fn asked(&self, role: Role<'_>, turn: u8) -> Result<ByteList, NoMemory>
+    fn asked_partitions(&self, role: Role<'_>, turn: u8) -> Result<ByteList, NoMemory>
         ensures { IfOk result (λ list. (H : List messages.Entry) → Tells role.entry H self.now → let who = ends.attempt self.now.id turn in list ≡ coordinator.asked_partitions (setting_of role.entry) (ends.at_home (setting_of role.entry) H who) who) }
     {
         let granted = grants_for(role.alloc, self.attempt(turn), &self.messages)?.len();
@@ -54,11 +54,11 @@ impl Story<'_> {
     }
 
     /// The partitions to which the end of the attempt of this turn was said.
-    fn told(&self, role: Role<'_>, turn: u8) -> Result<ByteList, NoMemory>
+    fn told_partitions(&self, role: Role<'_>, turn: u8) -> Result<ByteList, NoMemory>
         ensures { IfOk result (λ list. (H : List messages.Entry) → Tells role.entry H self.now → let who = ends.attempt self.now.id turn in list ≡ coordinator.told (setting_of role.entry) (ends.at_home (setting_of role.entry) H who) who) }
     {
-        if refused_for(self.attempt(turn), &self.messages) {
-            self.asked(role, turn)
+        if is_refused(self.attempt(turn), &self.messages) {
+            self.asked_partitions(role, turn)
         } else {
             self.participants.copy(role.alloc)
         }
@@ -69,10 +69,10 @@ impl Story<'_> {
         ensures { IfOk result (λ undone. (H : List messages.Entry) → Tells role.entry H self.now → undone ≡ ends.all_undone (setting_of role.entry) H (ends.attempt self.now.id turn)) }
     {
         let who = self.attempt(turn);
-        if !started_for(who, &self.messages) {
+        if !has_started(who, &self.messages) {
             return Ok(false);
         }
-        let told = self.told(role, turn)?;
+        let told = self.told_partitions(role, turn)?;
         Ok(all_undone(who, told.as_slice(), &self.messages))
     }
 

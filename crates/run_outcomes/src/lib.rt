@@ -8,7 +8,7 @@ mod ends;
 mod groups;
 mod lists;
 mod ordered;
-mod replies;
+mod received;
 mod runs;
 mod serial;
 mod serial_laws;

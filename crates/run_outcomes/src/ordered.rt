@@ -77,7 +77,7 @@ fn row_at(alloc: Global, rows: &[Keyed], key: Key) -> Result<Row, NoMemory>
 }
 
 /// The rows of the accesses that read, as their partitions sent them.
-fn collected(
+fn rows_read(
     role: Role<'_>,
     id: TxnId,
     accesses: &[Access],
@@ -111,8 +111,8 @@ impl Story<'_> {
         ensures { IfOk result (λ line. (H : List messages.Entry) → Tells role.entry H self.now → IsPlace (setting_of role.entry) self.now.id place → line ≡ finished_line (setting_of role.entry) H self.now.id) }
     {
         let n = ordered_number(role.config.parts, self.home, place);
-        let reads = collected(role, self.id, self.accesses.as_slice(), &self.messages)?;
-        let line = self.decided_as(role, n, reads)?;
+        let reads = rows_read(role, self.id, self.accesses.as_slice(), &self.messages)?;
+        let line = self.decided_line(role, n, reads)?;
         Ok(line)
     }
 }

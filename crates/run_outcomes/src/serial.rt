@@ -8,7 +8,7 @@ use server_core::{AbortList, Decided, DecidedList, GiveupList, Outcome, RunKind}
 use std::alloc::Global;
 use txn_program::{SerialList, SerialRun, SerialTxn};
 
-fn decided_of(alloc: Global, txn: SerialTxn) -> Result<Decided, NoMemory>
+fn serial_line(alloc: Global, txn: SerialTxn) -> Result<Decided, NoMemory>
     ensures { IfOk result (λ decided. decided ≡ decided_serially txn) }
 {
     let SerialTxn {
@@ -34,7 +34,7 @@ fn all_decided(alloc: Global, runs: SerialList) -> Result<DecidedList, NoMemory>
 {
     let mut list = DecidedList::with_capacity(alloc, runs.len())?;
     for txn in runs.into_vec() {
-        list.push(decided_of(alloc, txn)?)?;
+        list.push(serial_line(alloc, txn)?)?;
     }
     Ok(list)
 }

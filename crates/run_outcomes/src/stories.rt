@@ -27,7 +27,7 @@ pub(crate) struct Story<'h> {
 }
 
 /// The messages that a node has handled.
-fn heard<'h>(alloc: Global, node: u8, entries: &[&'h Entry]) -> Result<Vec<&'h Msg>, NoMemory>
+fn messages_at<'h>(alloc: Global, node: u8, entries: &[&'h Entry]) -> Result<Vec<&'h Msg>, NoMemory>
     ensures { IfOk result (λ v. map (λ m. m.now) v.items ≡ runs.heard node (map (λ e. e.now) entries.now)) }
 {
     let mut messages = Vec::new(alloc);
@@ -56,7 +56,7 @@ fn story_of<'h>(role: Role<'h>, id: TxnId, entries: &[&'h Entry]) -> Result<Stor
     let accesses = role.accesses(id)?;
     let participants = role.participants(id)?;
     let entries = newest_first(role.alloc, entries)?;
-    let messages = heard(role.alloc, home, &entries)?;
+    let messages = messages_at(role.alloc, home, &entries)?;
     Ok(Story {
         id,
         program,

@@ -150,7 +150,7 @@ fn commit(history: &mut History) -> Result<(), NoMemory> {
 }
 
 /// Two transactions that update key 1 at one partition: 1 commits; 2 is refused at entry 3, and given up.
-fn locked(alloc: Global) -> Result<(Workload, History), NoMemory> {
+fn lock_run(alloc: Global) -> Result<(Workload, History), NoMemory> {
     let work = work_of(alloc, &[&[(1, Some(b'p'))], &[(1, Some(b'q'))]])?;
     let mut history = History::new(alloc);
     ask_both(alloc, &mut history)?;
@@ -176,7 +176,7 @@ const TWO_PARTS: Config = Config {
 #[test]
 fn a_commit_and_a_refusal(rt: HostRuntime) -> Result<(), Fail> {
     let alloc = rt.alloc();
-    let (work, history) = locked(alloc)?;
+    let (work, history) = lock_run(alloc)?;
     assert!(rt; valid(&work));
     let rows = one_row(alloc, 1, b'p')?;
     let outcome = outcome_of(alloc, ONE_PART, &work, history.as_slice(), rows)?;
@@ -205,9 +205,9 @@ fn a_commit_and_a_refusal(rt: HostRuntime) -> Result<(), Fail> {
 }
 
 #[test]
-fn the_least_undecided(rt: HostRuntime) -> Result<(), Fail> {
+fn the_undecided(rt: HostRuntime) -> Result<(), Fail> {
     let alloc = rt.alloc();
-    let (work, history) = locked(alloc)?;
+    let (work, history) = lock_run(alloc)?;
     assert!(rt; valid(&work));
     let entries = history.as_slice();
     assert_eq!(rt; entries.len(), 12);
@@ -268,7 +268,7 @@ fn finish(history: &mut History, node: u8, id: u32, part: u8, n: u64) -> Result<
 
 /// Transactions 1 and 2 have their home at node 1, and 3 at node 0. In the global order 3 stands before 1, and 2 is not
 /// finished.
-fn ordered(alloc: Global) -> Result<(Workload, History), NoMemory> {
+fn calvin_run(alloc: Global) -> Result<(Workload, History), NoMemory> {
     let work = work_of(
         alloc,
         &[
@@ -291,7 +291,7 @@ fn ordered(alloc: Global) -> Result<(Workload, History), NoMemory> {
 #[test]
 fn a_global_order(rt: HostRuntime) -> Result<(), Fail> {
     let alloc = rt.alloc();
-    let (work, history) = ordered(alloc)?;
+    let (work, history) = calvin_run(alloc)?;
     assert!(rt; valid(&work));
     let rows = RowList::new(alloc);
     let outcome = outcome_of(alloc, TWO_PARTS, &work, history.as_slice(), rows)?;

@@ -7,7 +7,7 @@
 //! Mails are handled in the order in which they were said. In the comments 1.2 is the second attempt of transaction 1, and
 //! "on 4" is said of mails that the node of entry 4 said when it handled that entry.
 
-use crate::works::{keyed, row_of};
+use crate::works::{keyed_row, row_of};
 use deneva_base::{Attempt, Bound, Cause, Mode, Number, RowList, TxnId};
 use server_core::{Entry, History, Msg};
 use std::alloc::Global;
@@ -63,13 +63,7 @@ fn ask(who: Attempt, stamp: u64, key: u32, mode: Mode) -> Msg {
 }
 
 /// The bound is 0 under every protocol but MAAT.
-fn granted(
-    alloc: Global,
-    who: Attempt,
-    key: u32,
-    letter: u8,
-    version: Number,
-) -> Result<Msg, Fail> {
+fn grant(alloc: Global, who: Attempt, key: u32, letter: u8, version: Number) -> Result<Msg, Fail> {
     let key = ycsb_key_of(key);
     let row = row_of(alloc, letter)?;
     Ok(Msg::Granted {
@@ -88,7 +82,7 @@ fn prepare(alloc: Global, who: Attempt, first_key: u32, key: u32, letter: u8) ->
         key: ycsb_key_of(first_key),
     };
     let mut writes = RowList::new(alloc);
-    writes.push(keyed(alloc, key, letter)?)?;
+    writes.push(keyed_row(alloc, key, letter)?)?;
     Ok(Msg::Prepare {
         who,
         bound,
@@ -115,11 +109,11 @@ fn abort(who: Attempt) -> Msg {
     Msg::Abort { who }
 }
 
-fn done(who: Attempt, part: u8) -> Msg {
+fn done_message(who: Attempt, part: u8) -> Msg {
     Msg::Done { who, part }
 }
 
-fn undone(who: Attempt, part: u8) -> Msg {
+fn undone_message(who: Attempt, part: u8) -> Msg {
     Msg::Undone { who, part }
 }
 
@@ -132,9 +126,9 @@ fn begin_both(alloc: Global, list: &mut History) -> Result<(), Fail> {
     list.push(entry(2, 0, 0, ask(FIRST, 1, 2, Mode::Update)))?;
     list.push(entry(3, 1, 1, ask(OTHER, 2, 1, Mode::Update)))?;
     // On 2 and 3: nobody holds these keys, so the loaded rows are granted.
-    let row = granted(alloc, FIRST, 2, b'b', LOADED)?;
+    let row = grant(alloc, FIRST, 2, b'b', LOADED)?;
     list.push(entry(4, 0, 0, row))?;
-    let row = granted(alloc, OTHER, 1, b'a', LOADED)?;
+    let row = grant(alloc, OTHER, 1, b'a', LOADED)?;
     list.push(entry(5, 1, 1, row))?;
     Ok(())
 }
@@ -154,7 +148,7 @@ fn refuse_one(alloc: Global, list: &mut History) -> Result<(), Fail> {
     };
     list.push(entry(8, 1, 0, refusal))?;
     // On 7: nobody holds key 3.
-    let row = granted(alloc, OTHER, 3, b'c', LOADED)?;
+    let row = grant(alloc, OTHER, 3, b'c', LOADED)?;
     list.push(entry(9, 1, 1, row))?;
     Ok(())
 }
@@ -167,8 +161,8 @@ fn abort_one(alloc: Global, list: &mut History) -> Result<(), Fail> {
     // On 9: 2.1 has all its grants. It writes key 1 alone.
     list.push(entry(12, 1, 1, prepare(alloc, OTHER, 1, 1, b'r')?))?;
     // On 10 and 11: 13 does not close the attempt, 14 does.
-    list.push(entry(13, 0, 0, undone(FIRST, 0)))?;
-    list.push(entry(14, 1, 0, undone(FIRST, 1)))?;
+    list.push(entry(13, 0, 0, undone_message(FIRST, 0)))?;
+    list.push(entry(14, 1, 0, undone_message(FIRST, 1)))?;
     // On 12: nothing was committed at partition 1 before, so the vote is [1 + 0, 2^63].
     list.push(entry(15, 1, 1, yes(OTHER, 1, 1)))?;
     Ok(())
@@ -183,15 +177,15 @@ fn begin_again(alloc: Global, list: &mut History) -> Result<(), Fail> {
     // On 16: the stamp is that of the first attempt.
     list.push(entry(18, 0, 0, ask(AGAIN, 1, 2, Mode::Update)))?;
     // On 17: transaction 2 is over. Node 1 has no other, so nothing is said on 19.
-    list.push(entry(19, 1, 1, done(OTHER, 1)))?;
+    list.push(entry(19, 1, 1, done_message(OTHER, 1)))?;
     // On 18: nobody holds key 2 since 10, and nothing was written to it.
-    let row = granted(alloc, AGAIN, 2, b'b', LOADED)?;
+    let row = grant(alloc, AGAIN, 2, b'b', LOADED)?;
     list.push(entry(20, 0, 0, row))?;
     // On 20: one access is left.
     list.push(entry(21, 0, 1, ask(AGAIN, 1, 1, Mode::Update)))?;
     // On 21: nobody holds key 1 since 17, which wrote it with the number (1, 2).
     let version = Number { n: 1, id: TxnId(2) };
-    let row = granted(alloc, AGAIN, 1, b'r', version)?;
+    let row = grant(alloc, AGAIN, 1, b'r', version)?;
     list.push(entry(22, 1, 0, row))?;
     Ok(())
 }
@@ -209,8 +203,8 @@ fn commit_again(alloc: Global, list: &mut History) -> Result<(), Fail> {
     list.push(entry(27, 0, 0, commit(AGAIN, 2)))?;
     list.push(entry(28, 0, 1, commit(AGAIN, 2)))?;
     // On 27 and 28: transaction 1 is over on 30. Node 0 has no other, so nothing is in flight then.
-    list.push(entry(29, 0, 0, done(AGAIN, 0)))?;
-    list.push(entry(30, 1, 0, done(AGAIN, 1)))?;
+    list.push(entry(29, 0, 0, done_message(AGAIN, 0)))?;
+    list.push(entry(30, 1, 0, done_message(AGAIN, 1)))?;
     Ok(())
 }
 

@@ -9,4 +9,4 @@ mod tests;
 #[cfg(test)]
 mod works;
 
-pub use runs::{history_of, resumed_after};
+pub use runs::{history_of, resumed_history};

@@ -27,7 +27,7 @@ pub fn history_of<'w, S: Server<'w>>(
 }
 
 /// The history of a run by FIFO that is stopped after so many deliveries, or at its end, and resumed.
-pub fn resumed_after<'w, S: Server<'w>>(
+pub fn resumed_history<'w, S: Server<'w>>(
     alloc: Global,
     config: Config,
     work: &'w Workload,

@@ -4,7 +4,7 @@ ghost use Rattle.deneva_base.specs.declared.config.Protocol.TheVariants.{NoWait}
 
 use super::*;
 use crate::by_hand;
-use crate::works::meeting;
+use crate::works::meeting_work;
 use deneva_base::{Config, Protocol};
 use lock_control::Locks;
 use node_core::Node;
@@ -27,7 +27,7 @@ fn small_config() -> Config
 #[test]
 fn entries_worked_out_by_hand(rt: HostRuntime) -> Result<(), Fail> {
     let alloc = rt.alloc();
-    let work = meeting(alloc)?;
+    let work = meeting_work(alloc)?;
     assert!(rt; valid(&work));
     let history = history_of::<Node<Locks<0>>>(alloc, small_config(), &work, &Schedule::Fifo)?;
     assert_eq!(rt; history, by_hand::entries(alloc)?);
@@ -37,12 +37,12 @@ fn entries_worked_out_by_hand(rt: HostRuntime) -> Result<(), Fail> {
 #[test]
 fn a_resumed_run_ends_as_the_whole_run(rt: HostRuntime) -> Result<(), Fail> {
     let alloc = rt.alloc();
-    let work = meeting(alloc)?;
+    let work = meeting_work(alloc)?;
     assert!(rt; valid(&work));
     let whole = by_hand::entries(alloc)?;
     // At place 15 transaction 1 has aborted and 2 is voted on.
     for deliveries in [0, 1, 15, 100] {
-        let resumed = resumed_after::<Node<Locks<0>>>(alloc, small_config(), &work, deliveries)?;
+        let resumed = resumed_history::<Node<Locks<0>>>(alloc, small_config(), &work, deliveries)?;
         assert!(rt; resumed == whole, "after {deliveries}");
     }
     Ok(())

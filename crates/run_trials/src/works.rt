@@ -22,7 +22,7 @@ pub(crate) fn row_of(alloc: Global, letter: u8) -> Result<Row, Fail> {
     Ok(Row::of(alloc, cells)?)
 }
 
-pub(crate) fn keyed(alloc: Global, key: u32, letter: u8) -> Result<Keyed, Fail> {
+pub(crate) fn keyed_row(alloc: Global, key: u32, letter: u8) -> Result<Keyed, Fail> {
     let key = ycsb_key_of(key);
     let row = row_of(alloc, letter)?;
     Ok(Keyed { key, row })
@@ -32,7 +32,7 @@ pub(crate) fn keyed(alloc: Global, key: u32, letter: u8) -> Result<Keyed, Fail> 
 fn load(alloc: Global, letters: &[(u32, u8)]) -> Result<Load, Fail> {
     let mut rows = RowList::new(alloc);
     for (key, letter) in letters {
-        rows.push(keyed(alloc, *key, *letter)?)?;
+        rows.push(keyed_row(alloc, *key, *letter)?)?;
     }
     Ok(Load {
         kind: WorkKind::Ycsb,
@@ -66,7 +66,7 @@ fn program(alloc: Global, steps: &[Step]) -> Result<Program, Fail> {
 
 /// Two transactions that meet on key 1. The first begins at partition 0 and goes on to partition 1, where the second
 /// begins.
-pub(crate) fn meeting(alloc: Global) -> Result<Workload, Fail> {
+pub(crate) fn meeting_work(alloc: Global) -> Result<Workload, Fail> {
     let load = load(alloc, &[(1, b'a'), (2, b'b'), (3, b'c')])?;
     let mut programs = ProgramList::new(alloc);
     programs.push(program(alloc, &[Step::Update(2, b'p'), Step::Update(1, b'q')])?)?;

@@ -12,11 +12,11 @@ use Rattle.server_core.specs.declared.messages.Msg.{Msg}
 use Rattle.server_core.specs.declared.messages.Msg.TheVariants.{Ask, Refused, Prepare, Yes, No}
 use Rattle.server_core.specs.declared.messages.Entry.{Entry}
 use Rattle.server_core.specs.Setting.{Setting, home, participants}
-use Rattle.server_core.specs.Replies.{votes_for, started_for, all_voted}
+use Rattle.server_core.specs.Received.{votes_for, started_for, all_voted}
 use Rattle.server_core.specs.declared.ballots.Ballot.{Ballot}
 use Rattle.server_core.specs.Coordinator.{first_no, greatest_lo, least_hi, lo_of, hi_of}
 use Rattle.server_core.specs.declared.outcomes.AbortLine.{AbortLine}
-use Rattle.server_core.specs.Ends.{attempt, at_home}
+use Rattle.server_core.specs.AttemptEnds.{attempt, at_home}
 
 abbrev pub is_ask_of : Attempt → Key → Msg → Bool
 is_ask_of who key (Ask x stamp k mode) = attempt_eq x who && key_eq k key

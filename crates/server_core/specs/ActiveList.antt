@@ -23,10 +23,10 @@ abbrev pub without : TxnId → List TxnId → List TxnId
 without x xs = filter (λ y. not (id_eq y x)) xs
 
 -- what comes after the first part for which the test holds
-abbrev pub past : {A : Type 0} → (A → Bool) → List A → List A
-past f [] = []
-past f (x ∷ xs) = if f x then past f xs else x ∷ xs
+abbrev pub skip_while : {A : Type 0} → (A → Bool) → List A → List A
+skip_while f [] = []
+skip_while f (x ∷ xs) = if f x then skip_while f xs else x ∷ xs
 
 -- the transactions of the batches that are taken with m
 abbrev pub newly_taken : Setting → Msg → List Msg → List TxnId
-newly_taken s m ms = flat_map (batch s) (as_far (has_batch (m ∷ ms)) (past (has_batch ms) (slots s)))
+newly_taken s m ms = flat_map (batch s) (as_far (has_batch (m ∷ ms)) (skip_while (has_batch ms) (slots s)))

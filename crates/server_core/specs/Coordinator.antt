@@ -17,7 +17,7 @@ use Rattle.tpcc_rules.specs.declared.effects.Effect.{Effect}
 use Rattle.server_core.specs.Effects.{written, appended}
 use Rattle.server_core.specs.Setting.{Setting, homes, partitions_of, take_first}
 use Rattle.deneva_base.specs.Partitions.{partition_of}
-use Rattle.server_core.specs.Replies.{Reply, grants_for, votes_for, refused_for, closes_for, all_voted, all_closed}
+use Rattle.server_core.specs.Received.{Reply, grants_for, votes_for, refused_for, closes_for, all_voted, all_closed}
 use Rattle.server_core.specs.declared.ballots.Ballot.{Ballot}
 use Rattle.server_core.specs.Stamps.{stamped, stamp_from}
 

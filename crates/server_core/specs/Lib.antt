@@ -1,7 +1,7 @@
 pub mod Effects
 pub mod Setting
 pub mod Messages
-pub mod Replies
+pub mod Received
 pub mod Stamps
 pub mod Coordinator
 pub mod Participant
@@ -17,7 +17,7 @@ pub mod VotingFits
 pub mod CalvinFits
 pub mod Fits
 pub mod VotingRuns
-pub mod Ends
+pub mod AttemptEnds
 pub mod Limits
 pub mod RunAccount
 pub mod AbortsListed

@@ -8,10 +8,10 @@ use Rattle.deneva_base.specs.declared.numbers.Attempt.{Attempt}
 use Rattle.deneva_base.specs.declared.numbers.TxnId.{TxnId}
 use Rattle.deneva_base.specs.declared.rows.Keyed.{Keyed}
 use Rattle.server_core.specs.Coordinator.{reads_of}
-use Rattle.server_core.specs.Ends.{attempt, at_home, all_undone, done_turn}
+use Rattle.server_core.specs.AttemptEnds.{attempt, at_home, all_undone, done_turn}
 use Rattle.server_core.specs.GlobalOrder.{order, number}
 use Rattle.server_core.specs.CalvinScheduler.{has_finished, collected}
-use Rattle.server_core.specs.Replies.{Reply, grants_for}
+use Rattle.server_core.specs.Received.{Reply, grants_for}
 use Rattle.server_core.specs.Runs.{heard}
 use Rattle.server_core.specs.Setting.{Setting, home, participants_for}
 use Rattle.server_core.specs.declared.messages.Entry.{Entry}

@@ -14,7 +14,7 @@ use Rattle.server_core.specs.declared.messages.Msg.TheVariants.{Start, Ask, Gran
 use Rattle.server_core.specs.declared.messages.Mail.{Mail}
 use Rattle.server_core.specs.Setting.{Setting, home, partitions_of, participants}
 use Rattle.deneva_base.specs.declared.keys.Access.{Access}
-use Rattle.server_core.specs.Replies.{Reply}
+use Rattle.server_core.specs.Received.{Reply}
 use Rattle.deneva_base.specs.Partitions.{partition_of}
 use Rattle.server_core.specs.Effects.{written, appended}
 use Rattle.server_core.specs.Coordinator.{effect_of}

@@ -15,7 +15,7 @@ use Rattle.server_core.specs.Setting.{Setting, home, homes, participants}
 use Rattle.server_core.specs.Participant.{calls}
 use Rattle.server_core.specs.Runs.{heard}
 use Rattle.server_core.specs.Counts.{all_said, count, count_msgs}
-use Rattle.server_core.specs.Ends.{attempt, done_turn, all_undone}
+use Rattle.server_core.specs.AttemptEnds.{attempt, done_turn, all_undone}
 use Rattle.server_core.specs.Limits.{is_of, sum_of}
 use Rattle.server_core.specs.Voting.{says, opening}
 

@@ -14,7 +14,7 @@ use Rattle.protocol_rules.specs.Conditions.{MayAsk, MayPrepare, MayCommit, MayAb
 use Rattle.server_core.specs.declared.messages.Msg.{Msg}
 use Rattle.server_core.specs.declared.messages.Msg.TheVariants.{Start, Ask, Granted, Refused, Prepare, Yes, No, Commit, Abort, Done, Undone, Tick, Batch, Rows, Finished}
 use Rattle.server_core.specs.Setting.{Setting, home, loaded_at, participants}
-use Rattle.server_core.specs.Replies.{grants_for, votes_for, refused_for, closes_for, started_for, all_voted, all_closed}
+use Rattle.server_core.specs.Received.{grants_for, votes_for, refused_for, closes_for, started_for, all_voted, all_closed}
 use Rattle.server_core.specs.declared.ballots.Ballot.{Ballot}
 use Rattle.deneva_base.specs.Partitions.{partition_of}
 use Rattle.server_core.specs.Coordinator.{told, first_no, decision}

@@ -12,13 +12,13 @@ use Rattle.deneva_base.specs.declared.rows.Keyed.{Keyed}
 use Rattle.server_core.specs.declared.messages.Msg.TheVariants.{Ask, Prepare, No}
 use Rattle.server_core.specs.declared.messages.Entry.{Entry}
 use Rattle.server_core.specs.Setting.{Setting, home, rule_at, participants}
-use Rattle.server_core.specs.Replies.{votes_for, all_voted}
+use Rattle.server_core.specs.Received.{votes_for, all_voted}
 use Rattle.server_core.specs.declared.ballots.Ballot.{Ballot}
 use Rattle.server_core.specs.Participant.{calls}
 use Rattle.server_core.specs.Coordinator.{lo_of, hi_of}
 use Rattle.server_core.specs.Runs.{heard}
 use Rattle.server_core.specs.declared.outcomes.AbortLine.{AbortLine}
-use Rattle.server_core.specs.Ends.{at_home}
+use Rattle.server_core.specs.AttemptEnds.{at_home}
 use Rattle.server_core.specs.Aborts.{is_vote_of}
 
 -- entry e stands in H over those before it

@@ -65,7 +65,7 @@ impl Outbox {
     }
 
     /// Puts a mail at the end, for which there is room.
-    pub fn put(&mut self, mail: Mail)
+    pub fn append(&mut self, mail: Mail)
         requires room { 1 ≤ self.old.spare }
         ensures mails { self.new.mails ≡ self.old.mails ++ mail ∷ [] }
         ensures spare { self.new.spare + 1 ≡ self.old.spare }
@@ -74,13 +74,13 @@ impl Outbox {
     }
 
     /// Moves the mails to the end, for which there is room.
-    pub fn put_all(&mut self, mails: MailList)
+    pub fn append_all(&mut self, mails: MailList)
         requires room { length mails ≤ self.old.spare }
         ensures mails { self.new.mails ≡ self.old.mails ++ mails }
         ensures spare { self.new.spare + length mails ≡ self.old.spare }
     {
         for mail in mails.into_vec() {
-            self.put(mail);
+            self.append(mail);
         }
     }
 
@@ -90,7 +90,7 @@ impl Outbox {
         ensures err { OnErr result (self.new.mails ≡ self.old.mails) }
     {
         self.reserve(1)?;
-        self.put(mail);
+        self.append(mail);
         Ok(())
     }
 
@@ -100,7 +100,7 @@ impl Outbox {
         ensures err { OnErr result (self.new.mails ≡ self.old.mails) }
     {
         self.reserve(mails.len())?;
-        self.put_all(mails);
+        self.append_all(mails);
         Ok(())
     }
 

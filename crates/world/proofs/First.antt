@@ -4,7 +4,7 @@ use Rattle.std.proofs.lemmas.Bool.Decides.{nat_tests}
 use Rattle.server_core.specs.declared.messages.Entry.{Entry}
 use Rattle.server_core.specs.declared.messages.Mail.{Mail}
 use Rattle.world.specs.Chunks.{joined}
-use Rattle.world.specs.Replays.{Gives}
+use Rattle.world.specs.Matches.{Gives}
 use Rattle.world.proofs.Joined.{joined-at, get-left, get-right}
 
 -- none in the chunks before gives it, and none before it in its own

@@ -10,7 +10,7 @@ use Rattle.server_core.specs.declared.messages.Entry.{Entry}
 use Rattle.server_core.specs.declared.messages.Mail.{Mail}
 use Rattle.server_core.specs.declared.messages.Msg.{Msg}
 use Rattle.server_core.proofs.flight.Flights.{one_flight}
-use Rattle.world.specs.Replays.{Gives}
+use Rattle.world.specs.Matches.{Gives}
 use Rattle.world.specs.Worlds.{Seen, HasNodes}
 use Rattle.server_core.specs.Roles.{Role}
 use Rattle.world.proofs.Joined.{parted, take-parted, get-right}

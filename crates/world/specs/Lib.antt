@@ -2,4 +2,4 @@ pub mod Chunks
 pub mod Turns
 pub mod Worlds
 pub mod Gathered
-pub mod Replays
+pub mod Matches

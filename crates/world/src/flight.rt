@@ -3,7 +3,7 @@ ghost use Rattle.std.specs.Prelude.{◌≡◌, ◌++◌, ◌∷◌, [], ◌<◌,
 ghost use Rattle.std.specs.List.{remove};
 ghost use Rattle.server_core.specs.declared.messages.Mail.{Mail};
 ghost use Rattle.world.specs.Chunks.{LiesAt, joined};
-ghost use Rattle.world.specs.Replays.{Gives, IsFirst};
+ghost use Rattle.world.specs.Matches.{Gives, IsFirst};
 
 use deneva_base::{NoMemory, PushNoMemory};
 use server_core::{Entry, Mail};

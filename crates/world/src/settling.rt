@@ -15,11 +15,11 @@ pub fn settle(
     ensures all { in_line flight.new held.new said.new.mails ≡ in_line flight.old held.old said.old.mails }
     ensures ok { OnOk result ((held.new ≡ None) × (said.new.mails ≡ [])) }
 {
-    settle_held(flight, held)?;
-    settle_said(flight, held, said)
+    settle_held_mail(flight, held)?;
+    settle_outbox(flight, held, said)
 }
 
-fn settle_held(flight: &mut Flight<Mail>, held: &mut Option<Mail>) -> Result<(), NoMemory>
+fn settle_held_mail(flight: &mut Flight<Mail>, held: &mut Option<Mail>) -> Result<(), NoMemory>
     ensures all { in_line flight.new held.new [] ≡ in_line flight.old held.old [] }
     ensures ok { OnOk result (held.new ≡ None) }
 {
@@ -35,7 +35,7 @@ fn settle_held(flight: &mut Flight<Mail>, held: &mut Option<Mail>) -> Result<(),
     }
 }
 
-fn settle_said(
+fn settle_outbox(
     flight: &mut Flight<Mail>,
     held: &mut Option<Mail>,
     said: &mut Outbox,

@@ -11,7 +11,7 @@ ghost use Rattle.server_core.specs.Picks.{begun, deliver, deliveries, most_entri
 ghost use Rattle.server_core.specs.Runs.{heard};
 ghost use Rattle.server_core.specs.Says.{IsQuiet, IsRun, says};
 ghost use Rattle.server_core.specs.declared.messages.Mail.{Mail};
-ghost use Rattle.world.specs.Replays.{Gives, IsFirst};
+ghost use Rattle.world.specs.Matches.{Gives, IsFirst};
 ghost use Rattle.world.specs.Worlds.{HasNodes, IsRunning, seen};
 
 use crate::finishing::{gather, in_key_order};

@@ -19,7 +19,7 @@ use Rattle.server_core.specs.Calvin.{became_ready}
 use Rattle.server_core.specs.CalvinProper.{Valid}
 use Rattle.server_core.specs.CalvinFits.{Suits, AllFit}
 use Rattle.server_core.specs.Proper.{ids_in}
-use Rattle.server_core.specs.ActiveList.{active, is_first, became, without, past, newly_taken}
+use Rattle.server_core.specs.ActiveList.{active, is_first, became, without, skip_while, newly_taken}
 use Rattle.server_core.proofs.lists.ListTests.{or_left, or_right, not_both, not_true, is_or_not, all_at, all_from, has_in, in_has, id_tells, id_self}
 use Rattle.calvin_laws.proofs.order.Orders.{order_once, ids-append}
 use Rattle.calvin_laws.proofs.order.Nodes.{ready_is, as_far_in, rows_in, batch_more}
@@ -71,19 +71,19 @@ before_filter f x (y ∷ xs) h =
     other e false g next = rw (g, e) (next ∙ sym (ap (λ b. cond b (y ∷ filter f (before x xs)) (filter f (before x xs))) g))
 
 -- the first part grows at its end
-as_far_grows : {A : Type 0} (f g : A → Bool) (xs : List A) → ((x : A) → f x ≡ true → g x ≡ true) → as_far g xs ≡ as_far f xs ++ as_far g (past f xs)
+as_far_grows : {A : Type 0} (f g : A → Bool) (xs : List A) → ((x : A) → f x ≡ true → g x ≡ true) → as_far g xs ≡ as_far f xs ++ as_far g (skip_while f xs)
 as_far_grows f g [] h = refl
 as_far_grows {A} f g (x ∷ xs) h = go (f x) refl (as_far_grows f g xs h)
   where
-    go : (b : Bool) → f x ≡ b → as_far g xs ≡ as_far f xs ++ as_far g (past f xs) → as_far g (x ∷ xs) ≡ cond b (x ∷ as_far f xs) [] ++ as_far g (cond b (past f xs) (x ∷ xs))
+    go : (b : Bool) → f x ≡ b → as_far g xs ≡ as_far f xs ++ as_far g (skip_while f xs) → as_far g (x ∷ xs) ≡ cond b (x ∷ as_far f xs) [] ++ as_far g (cond b (skip_while f xs) (x ∷ xs))
     go true e next = ap (λ b. cond b (x ∷ as_far g xs) []) (h x e) ∙ ap (λ l. x ∷ l) next
     go false e next = refl
 
-whole_list : {A : Type 0} (f : A → Bool) (xs : List A) → xs ≡ as_far f xs ++ past f xs
+whole_list : {A : Type 0} (f : A → Bool) (xs : List A) → xs ≡ as_far f xs ++ skip_while f xs
 whole_list f [] = refl
 whole_list {A} f (x ∷ xs) = go (f x) (whole_list f xs)
   where
-    go : (b : Bool) → xs ≡ as_far f xs ++ past f xs → x ∷ xs ≡ cond b (x ∷ as_far f xs) [] ++ cond b (past f xs) (x ∷ xs)
+    go : (b : Bool) → xs ≡ as_far f xs ++ skip_while f xs → x ∷ xs ≡ cond b (x ∷ as_far f xs) [] ++ cond b (skip_while f xs) (x ∷ xs)
     go true next = ap (λ l. x ∷ l) next
     go false next = refl
 
@@ -188,9 +188,9 @@ module _ (s : Setting) (v : Valid s) (p : ℕ) where
   active_batch e q ids ms fit =
       let m : Msg = Batch e q ids in
       let new : List TxnId = newly_taken s m ms in
-      let grown : taken s (m ∷ ms) ≡ taken s ms ++ new = ap (flat_map (batch s)) (as_far_grows (has_batch ms) (has_batch (m ∷ ms)) (slots s) (batch_more m ms)) ∙ flat_map-append (batch s) (as_far (has_batch ms) (slots s)) (as_far (has_batch (m ∷ ms)) (past (has_batch ms) (slots s))) in
-      let rest : List TxnId = flat_map (batch s) (past (has_batch ms) (slots s)) in
-      let whole : order s ≡ taken s ms ++ rest = ap (flat_map (batch s)) (whole_list (has_batch ms) (slots s)) ∙ flat_map-append (batch s) (as_far (has_batch ms) (slots s)) (past (has_batch ms) (slots s)) in
+      let grown : taken s (m ∷ ms) ≡ taken s ms ++ new = ap (flat_map (batch s)) (as_far_grows (has_batch ms) (has_batch (m ∷ ms)) (slots s) (batch_more m ms)) ∙ flat_map-append (batch s) (as_far (has_batch ms) (slots s)) (as_far (has_batch (m ∷ ms)) (skip_while (has_batch ms) (slots s))) in
+      let rest : List TxnId = flat_map (batch s) (skip_while (has_batch ms) (slots s)) in
+      let whole : order s ≡ taken s ms ++ rest = ap (flat_map (batch s)) (whole_list (has_batch ms) (slots s)) ∙ flat_map-append (batch s) (as_far (has_batch ms) (slots s)) (skip_while (has_batch ms) (slots s)) in
       ap (filter (stands (m ∷ ms))) grown
       ∙ filter-append (stands ms) (taken s ms) new
       ∙ ap (λ l. active s p ms ++ l) (filter_same (stands ms) (λ x. participates s x p) new (λ x i.
@@ -199,7 +199,7 @@ module _ (s : Setting) (v : Valid s) (p : ℕ) where
       ∙ ⊎_elim
       (λ d. absurd (not_twice (taken s ms) rest whole x
       (has_in x (taken s ms) (and_parts (has_id x (taken s ms)) (participates s x p && unblocked s p ms x) (owned s p ms fit x (rows_from ms x p) (rows_in ms x p (all_at (has_rows ms x) p (participants_for s x) d (here_participant s v x p t))))).0)
-      (as_far_in s (has_batch (m ∷ ms)) x (past (has_batch ms) (slots s)) i)))
+      (as_far_in s (has_batch (m ∷ ms)) x (skip_while (has_batch ms) (slots s)) i)))
       (λ n. ap not n)
       (is_or_not (is_finished s ms x))
       ∙ sym t)

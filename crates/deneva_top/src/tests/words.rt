@@ -56,7 +56,7 @@ fn the_options_are_in_any_order(rt: HostRuntime) -> Result<(), Fail> {
 }
 
 /// A run with the defaults.
-fn plain(protocol: Protocol, schedule: Schedule) -> Option<Command> {
+fn default_run(protocol: Protocol, schedule: Schedule) -> Option<Command> {
     let config = Config {
         protocol,
         parts: 1,
@@ -79,7 +79,7 @@ fn each_protocol_has_its_word(rt: HostRuntime) -> Result<(), Fail> {
     for (line, protocol) in &cases {
         assert_eq!(rt;
             command(rt.alloc(), line)?,
-            plain(*protocol, Schedule::Fifo)
+            default_run(*protocol, Schedule::Fifo)
         );
     }
     Ok(())
@@ -88,9 +88,9 @@ fn each_protocol_has_its_word(rt: HostRuntime) -> Result<(), Fail> {
 #[test]
 fn an_order_is_a_schedule(rt: HostRuntime) -> Result<(), Fail> {
     let fifo = command(rt.alloc(), "replay --order fifo --protocol mvcc")?;
-    assert_eq!(rt; fifo, plain(Protocol::Mvcc, Schedule::Fifo));
+    assert_eq!(rt; fifo, default_run(Protocol::Mvcc, Schedule::Fifo));
     let lifo = command(rt.alloc(), "replay --order lifo --protocol mvcc")?;
-    assert_eq!(rt; lifo, plain(Protocol::Mvcc, Schedule::Lifo));
+    assert_eq!(rt; lifo, default_run(Protocol::Mvcc, Schedule::Lifo));
     let seeds = [
         ("replay --order seed:0 --protocol mvcc", 0),
         (
@@ -105,13 +105,13 @@ fn an_order_is_a_schedule(rt: HostRuntime) -> Result<(), Fail> {
     for (line, seed) in &seeds {
         assert_eq!(rt;
             command(rt.alloc(), line)?,
-            plain(Protocol::Mvcc, Schedule::Seed(*seed))
+            default_run(Protocol::Mvcc, Schedule::Seed(*seed))
         );
     }
     Ok(())
 }
 
-fn listed(alloc: Global, numbers: &[u32]) -> Result<Schedule, NoMemory> {
+fn listed_schedule(alloc: Global, numbers: &[u32]) -> Result<Schedule, NoMemory> {
     let mut list = CountList::new(alloc);
     for number in numbers {
         list.push(*number)?;
@@ -131,19 +131,25 @@ fn sevens(alloc: Global, count: usize) -> Result<String, NoMemory> {
 #[test]
 fn an_order_lists_numbers(rt: HostRuntime) -> Result<(), Fail> {
     let one = command(rt.alloc(), "replay --protocol maat --order list:0")?;
-    assert_eq!(rt; one, plain(Protocol::Maat, listed(rt.alloc(), &[0])?));
+    assert_eq!(rt;
+        one,
+        default_run(Protocol::Maat, listed_schedule(rt.alloc(), &[0])?)
+    );
     let three = command(
         rt.alloc(),
         "replay --protocol maat --order list:2.4294967295.1",
     )?;
     assert_eq!(rt;
         three,
-        plain(Protocol::Maat, listed(rt.alloc(), &[2, u32::MAX, 1])?)
+        default_run(
+            Protocol::Maat,
+            listed_schedule(rt.alloc(), &[2, u32::MAX, 1])?
+        )
     );
     let most = command(rt.alloc(), sevens(rt.alloc(), 1_000)?.as_str())?;
     assert_eq!(rt;
         most,
-        plain(Protocol::Maat, listed(rt.alloc(), &[7; 1_000])?)
+        default_run(Protocol::Maat, listed_schedule(rt.alloc(), &[7; 1_000])?)
     );
     let too_many = command(rt.alloc(), sevens(rt.alloc(), 1_001)?.as_str())?;
     assert_eq!(rt; too_many, None);

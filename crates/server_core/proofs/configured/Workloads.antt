@@ -29,7 +29,7 @@ use Rattle.txn_program.proofs.WorkloadLaws as law
 use Rattle.server_core.specs.Coordinator.{reads_of, effect_of}
 use Rattle.server_core.specs.Effects.{lasting, written, appended}
 use Rattle.server_core.specs.Proper.{FineReplies, ids_in, keys_in}
-use Rattle.server_core.specs.Replies.{Reply}
+use Rattle.server_core.specs.Received.{Reply}
 use Rattle.server_core.specs.Setting.{setting, partitions_of}
 
 -- the row of a key is one of the rows

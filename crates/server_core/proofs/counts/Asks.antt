@@ -11,7 +11,7 @@ use Rattle.server_core.specs.declared.messages.Msg.{Msg}
 use Rattle.server_core.specs.declared.messages.Msg.TheVariants.{Start, Granted}
 use Rattle.server_core.specs.Setting.{Setting, take_first, participants}
 use Rattle.deneva_base.specs.declared.keys.Access.{Access}
-use Rattle.server_core.specs.Replies.{Reply, grants_for, started_for}
+use Rattle.server_core.specs.Received.{Reply, grants_for, started_for}
 use Rattle.deneva_base.specs.Partitions.{partition_of}
 use Rattle.server_core.specs.Voting.{says}
 use Rattle.server_core.specs.Coordinator.{coordinator, next_ask, prepare_to, effect_of, bound_of}

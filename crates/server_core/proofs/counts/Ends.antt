@@ -14,7 +14,7 @@ use Rattle.deneva_base.proofs.Membership.{attempt_tells}
 use Rattle.server_core.specs.declared.messages.Msg.{Msg}
 use Rattle.server_core.specs.declared.messages.Msg.TheVariants.{Start, Granted, Refused, Yes, No, Commit, Abort, Done, Undone}
 use Rattle.server_core.specs.Setting.{Setting, participants}
-use Rattle.server_core.specs.Replies.{grants_for, votes_for, refused_for, all_voted}
+use Rattle.server_core.specs.Received.{grants_for, votes_for, refused_for, all_voted}
 use Rattle.server_core.specs.declared.ballots.Ballot.{Ballot}
 use Rattle.server_core.specs.Voting.{says}
 use Rattle.server_core.specs.Coordinator.{coordinator, asked_partitions, decision, first_no, to_all, polled, greatest_lo, least_hi}

@@ -22,7 +22,7 @@ use Rattle.server_core.specs.declared.messages.Mail.{Mail}
 use Rattle.server_core.specs.Setting.{Setting, partitions_of, rule_at, homes, participants}
 use Rattle.deneva_base.specs.declared.keys.Access.{Access}
 use Rattle.tpcc_rules.specs.declared.effects.Effect.{Effect}
-use Rattle.server_core.specs.Replies.{Reply, grants_for, votes_for, closes_for, all_voted, all_closed}
+use Rattle.server_core.specs.Received.{Reply, grants_for, votes_for, closes_for, all_voted, all_closed}
 use Rattle.server_core.specs.declared.ballots.Ballot.{Ballot}
 use Rattle.txn_program.specs.Transactions.{numbers_below}
 use Rattle.deneva_base.specs.Partitions.{partition_of}

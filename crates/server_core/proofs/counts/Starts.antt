@@ -14,7 +14,7 @@ use Rattle.server_core.specs.declared.messages.Msg.{Msg}
 use Rattle.server_core.specs.declared.messages.Msg.TheVariants.{Start, Ask, Granted, Refused, Yes, No, Commit, Abort, Done, Undone}
 use Rattle.server_core.specs.declared.messages.Mail.{Mail}
 use Rattle.server_core.specs.Setting.{Setting, homes, take_first}
-use Rattle.server_core.specs.Replies.{grants_for, votes_for, closes_for, started_for, all_closed}
+use Rattle.server_core.specs.Received.{grants_for, votes_for, closes_for, started_for, all_closed}
 use Rattle.server_core.specs.Coordinator.{told, coordinator, next_start, mail_start, overs, asked_partitions}
 use Rattle.server_core.specs.Voting.{says}
 use Rattle.server_core.specs.Stamps.{stamp_from, stamped}

@@ -20,7 +20,7 @@ use Rattle.server_core.specs.Coordinator.{told, first_no, decision, coordinator,
 use Rattle.server_core.specs.GlobalOrder.{batch, epochs}
 use Rattle.server_core.specs.CalvinScheduler.{is_finished}
 use Rattle.server_core.specs.Participant.{calls, participant, answer_mails, vote_mail, mail_home, wake_mails}
-use Rattle.server_core.specs.Replies.{Reply, grants_for, votes_for, closes_for, all_voted, all_closed}
+use Rattle.server_core.specs.Received.{Reply, grants_for, votes_for, closes_for, all_voted, all_closed}
 use Rattle.server_core.specs.declared.ballots.Ballot.{Ballot}
 use Rattle.server_core.specs.Runs.{Saying, heard, Reaches}
 use Rattle.server_core.specs.Setting.{Setting, homes, partitions_of, participants_for, rule_at, take_first}

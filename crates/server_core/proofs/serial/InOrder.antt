@@ -23,9 +23,9 @@ use Rattle.txn_program.specs.declared.programs.Program.{Program}
 use Rattle.txn_program.specs.declared.programs.Workload.{Workload}
 use Rattle.server_core.specs.Aborts.{Refusal, aborts_of, apart_of, turns, abort_lines, vote_abort, line_at}
 use Rattle.server_core.specs.Coordinator.{first_no, greatest_lo, least_hi}
-use Rattle.server_core.specs.Replies.{votes_for, started_for, all_voted}
+use Rattle.server_core.specs.Received.{votes_for, started_for, all_voted}
 use Rattle.server_core.specs.declared.ballots.Ballot.{Ballot}
-use Rattle.server_core.specs.Ends.{attempt, at_home, all_undone}
+use Rattle.server_core.specs.AttemptEnds.{attempt, at_home, all_undone}
 use Rattle.server_core.specs.IsSerial.{Rises}
 use Rattle.server_core.specs.Lines.{giveups_of}
 use Rattle.server_core.specs.Outcome.{outcome_with, last_rows, left_by, rows_of}

@@ -4,7 +4,7 @@ use Rattle.std.specs.List.{list_any, flat_map}
 use Rattle.std.proofs.lemmas.Bool.Decides.{nat_tests}
 use Rattle.deneva_base.specs.Lists.{IsIn}
 use Rattle.deneva_base.proofs.Membership.{in_left, in_right, in_cases, any_found, and_parts}
-use Rattle.server_core.specs.Replies.{all_closed}
+use Rattle.server_core.specs.Received.{all_closed}
 
 pub flat_in : {A B : Type 0} (f : A → List B) (xs : List A) (x : A) (y : B) → IsIn x xs → IsIn y (f x) → IsIn y (flat_map f xs)
 flat_in f [] x y i j = absurd i

@@ -13,7 +13,7 @@ use Rattle.server_core.specs.declared.messages.Msg.{Msg}
 use Rattle.server_core.specs.declared.messages.Msg.TheVariants.{Start, Ask, Granted, Refused, Commit, Abort, Done, Undone}
 use Rattle.server_core.specs.declared.messages.Mail.{Mail}
 use Rattle.server_core.specs.Setting.{Setting, homes}
-use Rattle.server_core.specs.Replies.{closes_for, all_closed}
+use Rattle.server_core.specs.Received.{closes_for, all_closed}
 use Rattle.server_core.specs.Coordinator.{told, overs, mail_start, coordinator}
 use Rattle.server_core.specs.Participant.{mail_home, participant}
 use Rattle.server_core.specs.Voting.{says}

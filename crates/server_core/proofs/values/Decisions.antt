@@ -16,7 +16,7 @@ use Rattle.server_core.specs.declared.messages.Msg.{Msg}
 use Rattle.server_core.specs.declared.messages.Msg.TheVariants.{Start, Ask, Granted, Refused, Yes, No, Commit, Abort, Done, Undone}
 use Rattle.server_core.specs.declared.messages.Mail.{Mail}
 use Rattle.server_core.specs.Setting.{Setting, participants}
-use Rattle.server_core.specs.Replies.{grants_for, votes_for, refused_for, started_for, all_voted}
+use Rattle.server_core.specs.Received.{grants_for, votes_for, refused_for, started_for, all_voted}
 use Rattle.server_core.specs.declared.ballots.Ballot.{Ballot}
 use Rattle.server_core.specs.Coordinator.{decision, first_no, no_in, lo_of, hi_of, greatest_lo, least_hi, to_all, polled, coordinator, asked_partitions}
 use Rattle.server_core.specs.Voting.{says}

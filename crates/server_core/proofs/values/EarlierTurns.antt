@@ -8,7 +8,7 @@ use Rattle.deneva_base.proofs.Membership.{attempt_tells}
 use Rattle.server_core.specs.declared.messages.Msg.{Msg}
 use Rattle.server_core.specs.declared.messages.Msg.TheVariants.{Start, Ask, Commit}
 use Rattle.server_core.specs.Setting.{Setting}
-use Rattle.server_core.specs.Replies.{started_for}
+use Rattle.server_core.specs.Received.{started_for}
 use Rattle.server_core.specs.VotingFits.{AllFit, IsAborted, Decides, AllUndone, earlier_turn}
 use Rattle.server_core.proofs.values.Origins.{aborted_started}
 use Rattle.server_core.proofs.counts.Starts.{undone_more}

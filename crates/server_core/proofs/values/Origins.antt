@@ -20,7 +20,7 @@ use Rattle.server_core.specs.declared.messages.Mail.{Mail}
 use Rattle.server_core.specs.declared.messages.Entry.{Entry}
 use Rattle.server_core.specs.Setting.{Setting, home, rule_at, homes, participants}
 use Rattle.deneva_base.specs.declared.keys.Access.{Access}
-use Rattle.server_core.specs.Replies.{Reply, grants_for, votes_for, refused_for, started_for, closes_for, all_voted, all_closed}
+use Rattle.server_core.specs.Received.{Reply, grants_for, votes_for, refused_for, started_for, closes_for, all_voted, all_closed}
 use Rattle.server_core.specs.declared.ballots.Ballot.{Ballot}
 use Rattle.deneva_base.specs.Partitions.{partition_of}
 use Rattle.server_core.specs.Coordinator.{told, first_no, decision, coordinator, next_ask, next_start, mail_start, prepare_to, effect_of, to_all, bound_of, asked_partitions, overs, polled, greatest_lo, least_hi, reads_of}

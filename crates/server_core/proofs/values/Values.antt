@@ -22,7 +22,7 @@ use Rattle.server_core.specs.declared.messages.Mail.{Mail}
 use Rattle.server_core.specs.declared.messages.Entry.{Entry}
 use Rattle.server_core.specs.Setting.{Setting, take_first, rule_at}
 use Rattle.deneva_base.specs.declared.keys.Access.{Access}
-use Rattle.server_core.specs.Replies.{votes_for, refused_for}
+use Rattle.server_core.specs.Received.{votes_for, refused_for}
 use Rattle.server_core.specs.declared.ballots.Ballot.{Ballot}
 use Rattle.server_core.specs.Participant.{calls, participant, answer_mails, vote_mail, mail_home, wake_mails}
 use Rattle.server_core.specs.Voting.{says}

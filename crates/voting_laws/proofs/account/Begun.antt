@@ -12,11 +12,11 @@ use Rattle.server_core.specs.declared.messages.Msg.TheVariants.{Start, Ask}
 use Rattle.server_core.specs.declared.messages.Mail.{Mail}
 use Rattle.server_core.specs.declared.messages.Entry.{Entry}
 use Rattle.server_core.specs.Setting.{Setting, home}
-use Rattle.server_core.specs.Replies.{started_for}
+use Rattle.server_core.specs.Received.{started_for}
 use Rattle.server_core.specs.VotingFits.{Suits, AllUndone}
 use Rattle.server_core.specs.Proper.{Valid}
 use Rattle.server_core.specs.Runs.{heard}
-use Rattle.server_core.specs.Ends.{attempt}
+use Rattle.server_core.specs.AttemptEnds.{attempt}
 use Rattle.server_core.specs.RunAccount.{starts_of}
 use Rattle.voting_laws.proofs.account.Words.{has_begun}
 use Rattle.server_core.proofs.counts.Starts.{turn_bound}

@@ -8,13 +8,13 @@ use Rattle.server_core.specs.declared.messages.Msg.TheVariants.{Start, Commit}
 use Rattle.server_core.specs.declared.messages.Mail.{Mail}
 use Rattle.server_core.specs.declared.messages.Entry.{Entry}
 use Rattle.server_core.specs.Setting.{Setting, home}
-use Rattle.server_core.specs.Replies.{started_for}
+use Rattle.server_core.specs.Received.{started_for}
 use Rattle.server_core.specs.Voting.{says, opening}
 use Rattle.server_core.specs.VotingFits.{Decides}
 use Rattle.server_core.specs.Proper.{Valid}
 use Rattle.server_core.specs.Runs.{heard}
 use Rattle.server_core.specs.Counts.{all_said}
-use Rattle.server_core.specs.Ends.{attempt, all_done, all_undone}
+use Rattle.server_core.specs.AttemptEnds.{attempt, all_done, all_undone}
 use Rattle.server_core.specs.RunAccount.{is_over}
 use Rattle.voting_laws.proofs.account.Words.{has_begun, has_ended}
 use Rattle.server_core.proofs.counts.Starts.{started_turn}

@@ -10,7 +10,7 @@ use Rattle.server_core.specs.declared.messages.Entry.{Entry}
 use Rattle.server_core.specs.Setting.{Setting, home, take_first}
 use Rattle.deneva_base.specs.declared.keys.Access.{Access}
 use Rattle.deneva_base.specs.Partitions.{partition_of}
-use Rattle.server_core.specs.Replies.{grants_for, refused_for, started_for}
+use Rattle.server_core.specs.Received.{grants_for, refused_for, started_for}
 use Rattle.server_core.specs.Participant.{calls}
 use Rattle.server_core.specs.Proper.{Valid, keys_in}
 use Rattle.server_core.specs.Runs.{heard}

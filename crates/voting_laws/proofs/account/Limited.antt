@@ -12,7 +12,7 @@ use Rattle.server_core.specs.declared.messages.Mail.{Mail}
 use Rattle.server_core.specs.declared.messages.Entry.{Entry}
 use Rattle.server_core.specs.Setting.{Setting, home, homes, take_first}
 use Rattle.txn_program.specs.Transactions.{numbers_below}
-use Rattle.server_core.specs.Replies.{started_for}
+use Rattle.server_core.specs.Received.{started_for}
 use Rattle.server_core.specs.Coordinator.{overs}
 use Rattle.server_core.specs.Voting.{says, opening, first_starts}
 use Rattle.server_core.specs.VotingFits.{AllFit}
@@ -20,7 +20,7 @@ use Rattle.server_core.specs.Proper.{Valid, ids_in}
 use Rattle.server_core.specs.Runs.{heard}
 use Rattle.server_core.specs.Counts.{all_said, count, count_msgs}
 use Rattle.server_core.specs.Limits.{sum_of}
-use Rattle.server_core.specs.Ends.{attempt}
+use Rattle.server_core.specs.AttemptEnds.{attempt}
 use Rattle.server_core.specs.RunAccount.{is_over}
 use Rattle.voting_laws.proofs.account.Words.{is_begun, open_at}
 use Rattle.server_core.proofs.counts.Conserved.{count_in}

@@ -11,7 +11,7 @@ use Rattle.deneva_base.proofs.Membership.{attempt_tells}
 use Rattle.server_core.specs.declared.messages.Msg.{Msg}
 use Rattle.server_core.specs.declared.messages.Msg.TheVariants.{Start, Ask, Granted, Refused, Commit, Done, Undone}
 use Rattle.server_core.specs.Setting.{Setting, participants}
-use Rattle.server_core.specs.Replies.{closes_for, started_for, all_closed}
+use Rattle.server_core.specs.Received.{closes_for, started_for, all_closed}
 use Rattle.server_core.specs.Coordinator.{told, asked_partitions}
 use Rattle.server_core.specs.VotingFits.{Suits, AllFit, IsAsking, IsAborted, Decides}
 use Rattle.server_core.specs.Proper.{ids_in}

@@ -18,7 +18,7 @@ use Rattle.server_core.specs.declared.messages.Mail.{Mail}
 use Rattle.server_core.specs.declared.messages.Entry.{Entry}
 use Rattle.server_core.specs.Setting.{Setting, home, homes, home_in, partitions_of, take_first, loaded_at, rule_at, participants}
 use Rattle.deneva_base.specs.declared.keys.Access.{Access}
-use Rattle.server_core.specs.Replies.{grants_for, votes_for, refused_for, closes_for, started_for, all_voted, all_closed}
+use Rattle.server_core.specs.Received.{grants_for, votes_for, refused_for, closes_for, started_for, all_voted, all_closed}
 use Rattle.server_core.specs.declared.ballots.Ballot.{Ballot}
 use Rattle.txn_program.specs.Transactions.{numbers_below}
 use Rattle.deneva_base.specs.Partitions.{partition_of}
@@ -32,7 +32,7 @@ use Rattle.server_core.specs.Runs.{Saying, heard, Reaches}
 use Rattle.server_core.specs.Counts.{all_said, count_msgs}
 use Rattle.server_core.specs.Limits.{sum_of}
 use Rattle.server_core.specs.declared.outcomes.Giveup.{Giveup}
-use Rattle.server_core.specs.Ends.{attempt, dones_for, undones_for, all_done, all_undone, done_turn}
+use Rattle.server_core.specs.AttemptEnds.{attempt, dones_for, undones_for, all_done, all_undone, done_turn}
 use Rattle.server_core.specs.Lines.{sort_lines, giveups_of, line_of, line_if, lines}
 use Rattle.server_core.proofs.serial.SerialWords.{IsDecidedIn, IsGivenUpIn}
 use Rattle.protocol_rules.specs.Waits.{WaitsLaw, Nothing, ForYounger, ForWriter}

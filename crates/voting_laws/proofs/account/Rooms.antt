@@ -11,12 +11,12 @@ use Rattle.server_core.specs.declared.messages.Msg.TheVariants.{Start, Commit, D
 use Rattle.server_core.specs.declared.messages.Mail.{Mail}
 use Rattle.server_core.specs.declared.messages.Entry.{Entry}
 use Rattle.server_core.specs.Setting.{Setting, home, participants}
-use Rattle.server_core.specs.Replies.{closes_for, started_for, all_closed}
+use Rattle.server_core.specs.Received.{closes_for, started_for, all_closed}
 use Rattle.server_core.specs.Coordinator.{told, asked_partitions}
 use Rattle.server_core.specs.VotingFits.{AllFit, IsAborted, Decides}
 use Rattle.server_core.specs.Proper.{Valid}
 use Rattle.server_core.specs.Runs.{heard}
-use Rattle.server_core.specs.Ends.{attempt, at_home, dones_for, undones_for, all_done, all_undone, done_turn}
+use Rattle.server_core.specs.AttemptEnds.{attempt, at_home, dones_for, undones_for, all_done, all_undone, done_turn}
 use Rattle.server_core.specs.RunAccount.{some_of, is_over}
 use Rattle.voting_laws.proofs.account.Words.{has_ended}
 use Rattle.server_core.proofs.counts.Starts.{started_turn, turn_bound}

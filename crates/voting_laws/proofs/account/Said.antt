@@ -13,7 +13,7 @@ use Rattle.server_core.specs.declared.messages.Msg.TheVariants.{Start, Ask, Prep
 use Rattle.server_core.specs.declared.messages.Mail.{Mail}
 use Rattle.server_core.specs.declared.messages.Entry.{Entry}
 use Rattle.server_core.specs.Setting.{Setting, home, partitions_of, take_first, participants}
-use Rattle.server_core.specs.Replies.{grants_for, votes_for, refused_for, started_for, all_voted}
+use Rattle.server_core.specs.Received.{grants_for, votes_for, refused_for, started_for, all_voted}
 use Rattle.server_core.specs.Coordinator.{asked_partitions}
 use Rattle.server_core.specs.Voting.{says, opening}
 use Rattle.server_core.specs.Proper.{ProperMsg, Valid}

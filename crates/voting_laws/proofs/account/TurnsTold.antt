@@ -12,12 +12,12 @@ use Rattle.server_core.specs.declared.messages.Msg.TheVariants.{Start, Ask, Done
 use Rattle.server_core.specs.declared.messages.Mail.{Mail}
 use Rattle.server_core.specs.declared.messages.Entry.{Entry}
 use Rattle.server_core.specs.Setting.{Setting, home, homes, participants}
-use Rattle.server_core.specs.Replies.{grants_for, votes_for, refused_for, closes_for, all_voted, all_closed}
+use Rattle.server_core.specs.Received.{grants_for, votes_for, refused_for, closes_for, all_voted, all_closed}
 use Rattle.server_core.specs.Coordinator.{asked_partitions, told}
 use Rattle.server_core.specs.Proper.{Valid}
 use Rattle.server_core.specs.Runs.{heard}
 use Rattle.server_core.specs.Counts.{count_msgs}
-use Rattle.server_core.specs.Ends.{attempt}
+use Rattle.server_core.specs.AttemptEnds.{attempt}
 use Rattle.voting_laws.proofs.account.Words.{has_begun, is_begun}
 use Rattle.server_core.specs.RunAccount.{ends_of, closes_of, is_over, Turns, starts_txn, all_mails, was_said, said_to, begun, ending, has_replied, ended_everywhere, is_open}
 use Rattle.server_core.proofs.counts.Prepares.{occurs, slice_some}

@@ -13,14 +13,14 @@ use Rattle.server_core.specs.declared.messages.Entry.{Entry}
 use Rattle.server_core.specs.Setting.{Setting, home, homes, participants}
 use Rattle.deneva_base.specs.declared.keys.Access.{Access}
 use Rattle.deneva_base.specs.Partitions.{partition_of}
-use Rattle.server_core.specs.Replies.{grants_for, votes_for, refused_for, started_for, all_voted}
+use Rattle.server_core.specs.Received.{grants_for, votes_for, refused_for, started_for, all_voted}
 use Rattle.server_core.specs.Coordinator.{asked_partitions}
 use Rattle.server_core.specs.Participant.{calls}
 use Rattle.server_core.specs.VotingFits.{AllUndone}
 use Rattle.server_core.specs.Runs.{heard}
 use Rattle.server_core.specs.Counts.{count_msgs}
 use Rattle.server_core.specs.RunAccount.{starts_of, prepares_of, votes_of, ends_of, closes_of, flying, is_over}
-use Rattle.server_core.specs.Ends.{attempt, all_done, all_undone}
+use Rattle.server_core.specs.AttemptEnds.{attempt, all_done, all_undone}
 
 abbrev pub asks_of : Attempt → Key → Msg → Bool
 asks_of who key (Ask x stamp k mode) = attempt_eq x who && key_eq k key

@@ -18,7 +18,7 @@ use Rattle.server_core.specs.declared.messages.Mail.{Mail}
 use Rattle.server_core.specs.declared.messages.Entry.{Entry}
 use Rattle.server_core.specs.Setting.{Setting, home, homes, partitions_of, take_first, rule_at, participants}
 use Rattle.deneva_base.specs.declared.keys.Access.{Access}
-use Rattle.server_core.specs.Replies.{grants_for, votes_for, refused_for, closes_for, started_for, all_voted}
+use Rattle.server_core.specs.Received.{grants_for, votes_for, refused_for, closes_for, started_for, all_voted}
 use Rattle.server_core.specs.declared.ballots.Ballot.{Ballot}
 use Rattle.txn_program.specs.Transactions.{numbers_below}
 use Rattle.deneva_base.specs.Partitions.{partition_of}

@@ -27,7 +27,7 @@ use Rattle.server_core.specs.declared.messages.Mail.{Mail}
 use Rattle.server_core.specs.declared.messages.Entry.{Entry}
 use Rattle.server_core.specs.Setting.{Setting, home, home_in, take_first, loaded_at, rule_at, participants}
 use Rattle.deneva_base.specs.declared.keys.Access.{Access}
-use Rattle.server_core.specs.Replies.{Reply, grants_for, votes_for, all_voted, refused_for, closes_for, started_for, all_closed}
+use Rattle.server_core.specs.Received.{Reply, grants_for, votes_for, all_voted, refused_for, closes_for, started_for, all_closed}
 use Rattle.txn_program.specs.Transactions.{numbers_below}
 use Rattle.deneva_base.specs.Partitions.{partition_of}
 use Rattle.server_core.specs.Coordinator.{at_part, reads_of, asked_partitions, told, effect_of}

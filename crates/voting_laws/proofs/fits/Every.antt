@@ -12,7 +12,7 @@ use Rattle.server_core.specs.declared.messages.Mail.{Mail}
 use Rattle.server_core.specs.declared.messages.Entry.{Entry}
 use Rattle.server_core.specs.Setting.{Setting, home, partitions_of, participants}
 use Rattle.server_core.specs.Voting.{says}
-use Rattle.server_core.specs.Replies.{started_for}
+use Rattle.server_core.specs.Received.{started_for}
 use Rattle.server_core.specs.VotingFits.{Suits, AllFit, Decides, IsAborted, earlier_turn}
 use Rattle.server_core.specs.Small.{SmallMsg}
 use Rattle.server_core.specs.Proper.{ProperMsg, Valid}

@@ -16,7 +16,7 @@ use Rattle.server_core.specs.declared.messages.Msg.{Msg}
 use Rattle.server_core.specs.declared.messages.Msg.TheVariants.{Start, Ask, Granted, Refused, Prepare, Yes, No, Commit, Abort}
 use Rattle.server_core.specs.Setting.{Setting, take_first, participants}
 use Rattle.deneva_base.specs.declared.keys.Access.{Access}
-use Rattle.server_core.specs.Replies.{grants_for, votes_for, refused_for, started_for}
+use Rattle.server_core.specs.Received.{grants_for, votes_for, refused_for, started_for}
 use Rattle.server_core.specs.declared.ballots.Ballot.{Ballot}
 use Rattle.server_core.specs.Participant.{calls_of}
 use Rattle.server_core.specs.VotingFits.{Suits, AllFit, HasAll, HasVoted}

@@ -20,7 +20,7 @@ use Rattle.server_core.specs.declared.messages.Msg.TheVariants.{Start, Ask, Gran
 use Rattle.server_core.specs.declared.messages.Mail.{Mail}
 use Rattle.server_core.specs.Setting.{Setting, rule_at, partitions_of}
 use Rattle.deneva_base.specs.declared.keys.Access.{Access}
-use Rattle.server_core.specs.Replies.{Reply, grants_for}
+use Rattle.server_core.specs.Received.{Reply, grants_for}
 use Rattle.tpcc_rules.specs.declared.effects.Effect.{Effect}
 use Rattle.server_core.specs.Participant.{calls, participant}
 use Rattle.txn_program.specs.Transactions.{numbers_below}

@@ -14,7 +14,7 @@ use Rattle.server_core.specs.declared.messages.Msg.TheVariants.{Start, Ask, Gran
 use Rattle.server_core.specs.declared.messages.Mail.{Mail}
 use Rattle.server_core.specs.Setting.{Setting, partitions_of}
 use Rattle.deneva_base.specs.declared.keys.Access.{Access}
-use Rattle.server_core.specs.Replies.{Reply, grants_for, started_for}
+use Rattle.server_core.specs.Received.{Reply, grants_for, started_for}
 use Rattle.server_core.specs.Stamps.{raised, counter, stamped, stamp_from}
 use Rattle.server_core.specs.Voting.{says}
 use Rattle.server_core.specs.Coordinator.{coordinator, next_ask, prepare_to, bound_of, effect_of}

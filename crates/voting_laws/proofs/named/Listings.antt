@@ -12,7 +12,7 @@ use Rattle.server_core.specs.declared.messages.Msg.TheVariants.{Ask, Refused, Pr
 use Rattle.server_core.specs.declared.messages.Mail.{Mail}
 use Rattle.server_core.specs.declared.messages.Entry.{Entry}
 use Rattle.server_core.specs.Setting.{Setting, home, participants}
-use Rattle.server_core.specs.Replies.{votes_for, refused_for, started_for, all_voted}
+use Rattle.server_core.specs.Received.{votes_for, refused_for, started_for, all_voted}
 use Rattle.server_core.specs.declared.ballots.Ballot.{Ballot}
 use Rattle.server_core.specs.Coordinator.{first_no, greatest_lo, least_hi, decision}
 use Rattle.server_core.specs.VotingFits.{IsAborted}
@@ -20,7 +20,7 @@ use Rattle.server_core.specs.Proper.{Valid}
 use Rattle.server_core.specs.Runs.{heard}
 use Rattle.server_core.specs.declared.outcomes.AbortLine.{AbortLine}
 use Rattle.server_core.specs.Aborts.{Refusal, is_ask_of, is_prepare_of, is_vote_of, newest, line_at, refusal_for, apart_of, vote_abort, abort_lines, turns, aborts_of}
-use Rattle.server_core.specs.Ends.{attempt, at_home}
+use Rattle.server_core.specs.AttemptEnds.{attempt, at_home}
 use Rattle.server_core.proofs.values.Origins.{started_ids, aborted_started}
 use Rattle.server_core.proofs.counts.Starts.{started_turn, turn_bound}
 use Rattle.server_core.proofs.values.Closed.{flat_in}

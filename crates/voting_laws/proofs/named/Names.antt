@@ -24,7 +24,7 @@ use Rattle.server_core.specs.declared.messages.Msg.TheVariants.{Start, Ask, Gran
 use Rattle.server_core.specs.declared.messages.Mail.{Mail}
 use Rattle.server_core.specs.declared.messages.Entry.{Entry}
 use Rattle.server_core.specs.Setting.{Setting, home, loaded_at, rule_at, participants}
-use Rattle.server_core.specs.Replies.{votes_for, started_for, all_voted}
+use Rattle.server_core.specs.Received.{votes_for, started_for, all_voted}
 use Rattle.server_core.specs.declared.ballots.Ballot.{Ballot}
 use Rattle.deneva_base.specs.Partitions.{partition_of}
 use Rattle.server_core.specs.Coordinator.{first_no, no_in, lo_of, hi_of, greatest_lo, least_hi, coordinator}
@@ -35,7 +35,7 @@ use Rattle.server_core.specs.Runs.{heard}
 use Rattle.server_core.specs.Counts.{all_said, count_msgs}
 use Rattle.server_core.specs.declared.outcomes.AbortLine.{AbortLine}
 use Rattle.server_core.specs.Aborts.{Refusal, is_ask_of, is_prepare_of, is_vote_of, newest, line_at, refusal_for, lesser, least_part, part_or, apart_of, vote_abort, abort_lines, turns, aborts_of}
-use Rattle.server_core.specs.Ends.{attempt, at_home}
+use Rattle.server_core.specs.AttemptEnds.{attempt, at_home}
 use Rattle.protocol_rules.specs.Naming.{NamesKey, NamesRange, Naming}
 use Rattle.server_core.specs.VotingNamed.{ByAsk, ByPrepare, NamedBy, IsNamed}
 use Rattle.server_core.proofs.counts.Quiet.{is_ask, is_prepare}

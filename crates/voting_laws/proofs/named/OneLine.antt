@@ -13,7 +13,7 @@ use Rattle.server_core.specs.declared.messages.Msg.TheVariants.{Start, Commit, A
 use Rattle.server_core.specs.declared.messages.Mail.{Mail}
 use Rattle.server_core.specs.declared.messages.Entry.{Entry}
 use Rattle.server_core.specs.Setting.{Setting, home, participants}
-use Rattle.server_core.specs.Replies.{votes_for, refused_for, started_for, all_voted}
+use Rattle.server_core.specs.Received.{votes_for, refused_for, started_for, all_voted}
 use Rattle.server_core.specs.Coordinator.{asked_partitions, first_no, greatest_lo, least_hi, decision}
 use Rattle.server_core.specs.VotingFits.{IsAborted, Polled}
 use Rattle.server_core.specs.Proper.{Valid, ids_in}
@@ -21,7 +21,7 @@ use Rattle.server_core.specs.RunAccount.{ends_of, all_mails, was_said}
 use Rattle.server_core.specs.AbortsListed.{aborts, lines_of, ListsAborts}
 use Rattle.server_core.specs.declared.outcomes.AbortLine.{AbortLine}
 use Rattle.server_core.specs.Aborts.{Refusal, is_ask_of, is_prepare_of, is_vote_of, newest, apart_of, line_at, refusal_for, vote_abort, abort_lines, turns, aborts_of}
-use Rattle.server_core.specs.Ends.{attempt, at_home}
+use Rattle.server_core.specs.AttemptEnds.{attempt, at_home}
 use Rattle.server_core.proofs.counts.Prepares.{occurs}
 use Rattle.server_core.proofs.values.Closed.{in_flat}
 use Rattle.server_core.proofs.values.EarlierTurns.{not_both}

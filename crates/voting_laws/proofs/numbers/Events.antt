@@ -16,7 +16,7 @@ use Rattle.server_core.specs.declared.messages.Entry.{Entry}
 use Rattle.server_core.specs.Setting.{Setting, home, partitions_of, take_first, participants}
 use Rattle.deneva_base.specs.declared.keys.Access.{Access}
 use Rattle.deneva_base.specs.Partitions.{partition_of}
-use Rattle.server_core.specs.Replies.{grants_for, refused_for, started_for}
+use Rattle.server_core.specs.Received.{grants_for, refused_for, started_for}
 use Rattle.server_core.specs.Coordinator.{told, asked_partitions}
 use Rattle.server_core.specs.VotingFits.{Suits, AllFit}
 use Rattle.server_core.specs.Proper.{Valid}

@@ -8,7 +8,7 @@ use Rattle.deneva_base.specs.Keys.{number_lt}
 use Rattle.deneva_base.specs.Lists.{IsIn}
 use Rattle.deneva_base.specs.declared.numbers.Attempt.{Attempt}
 use Rattle.deneva_base.specs.declared.numbers.TxnId.{TxnId}
-use Rattle.server_core.specs.Ends.{attempt, all_done, all_undone, done_turn}
+use Rattle.server_core.specs.AttemptEnds.{attempt, all_done, all_undone, done_turn}
 use Rattle.server_core.specs.Lines.{line_of, line_if, lines, giveups_of, put_line, sort_lines}
 use Rattle.server_core.specs.Proper.{Valid}
 use Rattle.server_core.specs.Setting.{Setting}

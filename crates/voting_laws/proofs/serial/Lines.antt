@@ -18,7 +18,7 @@ use Rattle.server_core.specs.declared.messages.Mail.{Mail}
 use Rattle.server_core.specs.declared.messages.Entry.{Entry}
 use Rattle.server_core.specs.Setting.{Setting, home, partitions_of, participants}
 use Rattle.deneva_base.specs.declared.keys.Access.{Access}
-use Rattle.server_core.specs.Replies.{Reply, grants_for, started_for, all_closed, votes_for}
+use Rattle.server_core.specs.Received.{Reply, grants_for, started_for, all_closed, votes_for}
 use Rattle.deneva_base.specs.Partitions.{partition_of}
 use Rattle.server_core.specs.Voting.{says}
 use Rattle.server_core.specs.Participant.{mail_home}
@@ -28,7 +28,7 @@ use Rattle.server_core.specs.Proper.{Valid}
 use Rattle.server_core.specs.Runs.{heard}
 use Rattle.server_core.specs.Counts.{all_said}
 use Rattle.server_core.specs.declared.outcomes.Decided.{Decided as Line}
-use Rattle.server_core.specs.Ends.{attempt, at_home, dones_for, all_done, done_turn}
+use Rattle.server_core.specs.AttemptEnds.{attempt, at_home, dones_for, all_done, done_turn}
 use Rattle.server_core.specs.Lines.{n_in, committed_n, line_of, line_if, lines}
 use Rattle.server_core.proofs.values.Origins.{started_ids}
 use Rattle.server_core.proofs.values.Values.{key_there, done_made, is_done}

@@ -20,7 +20,7 @@ use Rattle.server_core.specs.declared.messages.Mail.{Mail}
 use Rattle.server_core.specs.declared.messages.Entry.{Entry}
 use Rattle.server_core.specs.Setting.{Setting, home, partitions_of, take_first}
 use Rattle.deneva_base.specs.declared.keys.Access.{Access}
-use Rattle.server_core.specs.Replies.{Reply, grants_for, refused_for, started_for, all_closed}
+use Rattle.server_core.specs.Received.{Reply, grants_for, refused_for, started_for, all_closed}
 use Rattle.tpcc_rules.specs.declared.effects.Effect.{Effect}
 use Rattle.deneva_base.specs.Partitions.{partition_of}
 use Rattle.server_core.specs.Coordinator.{told, effect_of, reads_of}
@@ -29,7 +29,7 @@ use Rattle.server_core.specs.Proper.{Valid, ids_in}
 use Rattle.server_core.specs.Runs.{heard}
 use Rattle.server_core.specs.declared.outcomes.Decided.{Decided as Line}
 use Rattle.server_core.specs.declared.outcomes.Giveup.{Giveup}
-use Rattle.server_core.specs.Ends.{attempt, at_home, undones_for, all_done, all_undone, done_turn}
+use Rattle.server_core.specs.AttemptEnds.{attempt, at_home, undones_for, all_done, all_undone, done_turn}
 use Rattle.server_core.specs.Lines.{replies, line_of, line_if, lines, sort_lines, giveups_of}
 use Rattle.server_core.specs.Outcome.{rows_of}
 use Rattle.protocol_rules.specs.Leaving.{row_or}

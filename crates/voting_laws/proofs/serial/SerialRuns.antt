@@ -22,13 +22,13 @@ use Rattle.deneva_base.specs.Partitions.{partition_of}
 use Rattle.server_core.specs.Coordinator.{at_part, effect_of, reads_of}
 use Rattle.server_core.specs.Participant.{calls, mail_home}
 use Rattle.server_core.specs.Voting.{says, opening}
-use Rattle.server_core.specs.Replies.{grants_for, started_for, all_closed}
+use Rattle.server_core.specs.Received.{grants_for, started_for, all_closed}
 use Rattle.server_core.specs.Effects.{written, appended, leaves}
 use Rattle.server_core.specs.Proper.{Valid}
 use Rattle.server_core.specs.Runs.{heard}
 use Rattle.server_core.specs.VotingAtomic.{Everywhere, CommitsAgree}
 use Rattle.server_core.specs.declared.outcomes.Decided.{Decided as Line}
-use Rattle.server_core.specs.Ends.{at_home, dones_for, all_done, done_turn}
+use Rattle.server_core.specs.AttemptEnds.{at_home, dones_for, all_done, done_turn}
 use Rattle.server_core.specs.Lines.{replies, line_of, line_if, lines}
 use Rattle.server_core.proofs.serial.SerialWords.{txn_of, Txn, Wrote, Found, Agrees}
 use Rattle.server_core.proofs.counts.Starts.{started_turn, turn_bound}

@@ -9,7 +9,7 @@ use Rattle.deneva_base.specs.declared.numbers.Number.{Number}
 use Rattle.deneva_base.specs.declared.numbers.TxnId.{TxnId}
 use Rattle.deneva_base.proofs.Membership.{any_at, any_found}
 use Rattle.server_core.specs.Counts.{count_msgs}
-use Rattle.server_core.specs.Ends.{attempt, all_undone}
+use Rattle.server_core.specs.AttemptEnds.{attempt, all_undone}
 use Rattle.server_core.specs.Lines.{lines, sort_lines, giveups_of}
 use Rattle.server_core.specs.Proper.{Valid}
 use Rattle.server_core.specs.Runs.{heard}

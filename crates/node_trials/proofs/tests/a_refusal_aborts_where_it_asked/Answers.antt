@@ -6,6 +6,6 @@ use Rattle.node_trials.specs.Works.{trial_role}
 use Rattle.node_trials.proofs.Fitting.{refused_fit}
 use Rattle.node_trials.proofs.tests.a_refusal_aborts_where_it_asked.Goals as goal
 
-pub said_without_waits-requires : goal.said_without_waits-requires
-said_without_waits-requires g c =
+pub mails_without_waits-requires : goal.mails_without_waits-requires
+mails_without_waits-requires g c =
     subst (λ (l : List Step). FitInTurn (trial_role NoWait) [] l) (sym (c.deref.ensures.value ∙ c.in_ok-steps.ensures)) refused_fit

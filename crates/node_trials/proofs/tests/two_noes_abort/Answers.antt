@@ -7,7 +7,7 @@ use Rattle.node_trials.specs.Works.{trial_role, sent, asked_steps, two_noes_step
 use Rattle.node_trials.proofs.Fitting.{asked_fit, two_noes_fit}
 use Rattle.node_trials.proofs.tests.two_noes_abort.Goals as goal
 
-pub said_without_waits-requires : goal.said_without_waits-requires
-said_without_waits-requires g c =
+pub mails_without_waits-requires : goal.mails_without_waits-requires
+mails_without_waits-requires g c =
     let votes = ap₂ (λ (first second : Msg). asked_steps ++ sent 0 first ∷ sent 1 second ∷ []) c.no.ensures c.no-2.ensures in
     subst (λ (l : List Step). FitInTurn (trial_role NoWait) [] l) (sym (c.deref.ensures.value ∙ c.in_ok-steps.ensures ∙ votes)) (asked_fit two_noes_steps two_noes_fit)

@@ -6,6 +6,6 @@ use Rattle.node_trials.specs.Works.{trial_role, apart_steps}
 use Rattle.node_trials.proofs.Fitting.{asked_fit, apart_fit}
 use Rattle.node_trials.proofs.tests.windows_apart_abort_and_a_restart_keeps_its_stamp.Goals as goal
 
-pub said_without_waits-requires : goal.said_without_waits-requires
-said_without_waits-requires g c =
+pub mails_without_waits-requires : goal.mails_without_waits-requires
+mails_without_waits-requires g c =
     subst (λ (l : List Step). FitInTurn (trial_role NoWait) [] l) (sym (c.deref.ensures.value ∙ c.in_ok-steps.ensures)) (asked_fit apart_steps apart_fit)

@@ -6,6 +6,6 @@ use Rattle.node_trials.specs.Works.{trial_role, meeting_steps}
 use Rattle.node_trials.proofs.Fitting.{asked_fit, meeting_fit}
 use Rattle.node_trials.proofs.tests.windows_that_meet_commit_with_the_least_number.Goals as goal
 
-pub said_without_waits-requires : goal.said_without_waits-requires
-said_without_waits-requires g c =
+pub mails_without_waits-requires : goal.mails_without_waits-requires
+mails_without_waits-requires g c =
     subst (λ (l : List Step). FitInTurn (trial_role NoWait) [] l) (sym (c.deref.ensures.value ∙ c.in_ok-steps.ensures)) (asked_fit meeting_steps meeting_fit)

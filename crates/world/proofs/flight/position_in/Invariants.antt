@@ -1,7 +1,7 @@
 use Rattle.std.proofs.Common.{◌≡◌, ℕ, length, take, slice_get, Some}
 use Rattle.server_core.specs.declared.messages.Mail.{Mail}
 use Rattle.world.specs.Chunks.{joined}
-use Rattle.world.specs.Replays.{Gives}
+use Rattle.world.specs.Matches.{Gives}
 use Rattle.world.proofs.flight.position_in.Given as goal
 
 -- none in the chunks before gives the entry

@@ -39,7 +39,7 @@ returns-clause-says c = λ ms stands suits.
     let done : is_finished s (Rows x q rows ∷ ms) x ≡ true = sym (complete_is s a.part ms stands.fit x q rows suits n.arrivals stands.arrivals) ∙ c.requires.complete in
     let left : c.in_ok-left.left ≡ applied s a.part (Rows x q rows ∷ ms) x = c.in_ok-left.ensures ∙ ap (λ l. left_at s a.part x (collected_from s (rows_with (arrivals_at n.arrivals x) q l) x)) c.as_slice.ensures ∙ ap (left_at s a.part x) (collected_is s a.part ms stands.fit x q rows suits n.arrivals stands.arrivals) in
     let said = says_finish a.config a.work.now a.ranges a.valid a.part ms stands.fit x q rows suits done n.store stands.versions n.locks stands.locks in
-    c.put_all.ensures.mails
+    c.append_all.ensures.mails
     ∙ ap (λ l. l ++ c.in_ok-mails.mails) c.in_ok-reserve-2.ensures.mails
     ∙ ap (λ l. c.args.out.now.mails ++ l)
     (c.in_ok-mails.ensures
@@ -67,8 +67,8 @@ returns-clause-stands c = λ ms stands suits.
       batches = batches_kept s v a.part ms stands.fit x q rows suits n.batches stands.batches;
       locks = locks_left s v a.part ms stands.fit x q rows suits done n.locks c.leave.new.self stands.locks (λ key. c.leave.ensures key ∙ ap (λ l. left_by x l key (queue_at n.locks key)) (c.as_slice-4.ensures ∙ c.in_ok-here.ensures));
       arrivals = arrivals_forgotten s a.part ms stands.fit x q rows suits n.arrivals stands.arrivals c.forget.new.self c.forget.ensures done;
-      versions = versions_offered s v a.part ms stands.fit x q rows suits done n.store c.put_left.new.store stands.versions
-          (λ key. c.put_left.ensures key
+      versions = versions_offered s v a.part ms stands.fit x q rows suits done n.store c.put_rows.new.store stands.versions
+          (λ key. c.put_rows.ensures key
           ∙ ap (λ m. offered m c.number-number.result (row_of c.in_ok-left.left key)) (ap (λ f. get f key) c.in_ok-reserve.ensures.versions)
           ∙ ap (λ m. offered (version_at n.store key) m (row_of c.in_ok-left.left key)) c.number-number.ensures
           ∙ ap (λ l. offered (version_at n.store key) (number s x) (row_of l key)) left);

@@ -16,8 +16,8 @@ use Rattle.calvin_sched.specs.Tables.{queue_at}
 use Rattle.calvin_sched.proofs.Nodes.{place_in, fresh_at, fresh_known, locks_more, says_batch, stands_batch, stands_back}
 use Rattle.calvin_sched.proofs.node.CalvinNode.hear_batch.Goals as goal
 
-pub taken_with-requires-clause-place : goal.taken_with-requires-clause-place
-taken_with-requires-clause-place c =
+pub fresh_ids-requires-clause-place : goal.fresh_ids-requires-clause-place
+fresh_ids-requires-clause-place c =
     let n = c.args.self.now in
     let f = c.requires.fits in
     let at : c.args.epoch * c.from.result + c.from-2.result ≡ c.args.epoch * n.role.config.parts + c.args.seq = ap₂ (λ (a b : ℕ). c.args.epoch * a + b) c.from.ensures c.from-2.ensures in

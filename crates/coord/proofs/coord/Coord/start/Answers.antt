@@ -18,7 +18,7 @@ pub returns-clause-said : goal.returns-clause-said
 returns-clause-said c =
     let same = c.in_ok-accesses.ensures in
     let first : slice_get ((setting_of c.args.self.now.role).accesses c.args.who.txn) 0 ≡ Some c.get-first.result.now = ap (λ (l : List Access). slice_get l 0) (sym same) ∙ c.get-first.ensures in
-    c.put-2.ensures.mails
+    c.append.ensures.mails
     ∙ ap₂ (λ (l : List Mail) (x : Mail). l ++ x ∷ []) c.in_ok-reserve.ensures.mails c.ask_mail.ensures
     ∙ ap (λ n. c.args.out.now.mails ++ ask_first (setting_of c.args.self.now.role) c.args.self.now.role.part c.args.who n (Some c.get-first.result.now)) c.stamp-stamp.ensures
     ∙ ap (λ o. c.args.out.now.mails ++ ask_first (setting_of c.args.self.now.role) c.args.self.now.role.part c.args.who (stamp_for c.args.self.now c.args.who) o) (sym first)

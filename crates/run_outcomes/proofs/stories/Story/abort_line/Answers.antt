@@ -1,7 +1,7 @@
 use Rattle.std.proofs.Common.{map, ap, ap₂, sym, ◌∙◌}
 use Rattle.std.proofs.lemmas.Result.{IfOk-weaker}
 use Rattle.server_core.specs.Aborts.{abort_lines, refusal_for}
-use Rattle.server_core.specs.Ends.{attempt}
+use Rattle.server_core.specs.AttemptEnds.{attempt}
 use Rattle.run_outcomes.specs.Seen.{refusal_of}
 use Rattle.server_core.specs.Roles.{setting_of}
 use Rattle.run_outcomes.proofs.Aborting.{refusals_told}

@@ -1,5 +1,5 @@
 use Rattle.std.proofs.Common.{◌||◌, is_some, refl, ap, sym, ◌∙◌}
-use Rattle.server_core.specs.Ends.{attempt, all_undone}
+use Rattle.server_core.specs.AttemptEnds.{attempt, all_undone}
 use Rattle.server_core.specs.Roles.{setting_of}
 use Rattle.run_outcomes.proofs.VotedOutcomes.{over_there, over_here, still_some}
 use Rattle.run_outcomes.proofs.stories.Story.is_ended.Goals as goal

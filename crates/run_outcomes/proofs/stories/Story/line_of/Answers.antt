@@ -1,7 +1,7 @@
 use Rattle.std.proofs.Common.{map, reverse, ◌++◌, ap, ap₂, ◌∙◌}
 use Rattle.server_core.specs.Coordinator.{reads_of}
 use Rattle.server_core.specs.Lines.{committed_n}
-use Rattle.server_core.specs.Replies.{grants_for}
+use Rattle.server_core.specs.Received.{grants_for}
 use Rattle.run_outcomes.specs.GrantedRows.{reply_of}
 use Rattle.run_outcomes.proofs.Telling.{line_told}
 use Rattle.run_outcomes.proofs.stories.Story.line_of.Goals as goal

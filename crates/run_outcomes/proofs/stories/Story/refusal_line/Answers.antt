@@ -2,7 +2,7 @@ use Rattle.std.proofs.Common.{Bor, option_map, ap, ◌∙◌}
 use Rattle.std.specs.List.{find}
 use Rattle.deneva_base.specs.declared.numbers.Attempt.{Attempt}
 use Rattle.server_core.specs.Aborts.{is_ask_of, line_at}
-use Rattle.server_core.specs.Ends.{attempt}
+use Rattle.server_core.specs.AttemptEnds.{attempt}
 use Rattle.server_core.specs.declared.messages.Entry.{Entry}
 use Rattle.run_outcomes.proofs.Aborting.{found_in, refusal_told}
 use Rattle.run_outcomes.proofs.stories.Story.refusal_line.Goals as goal

@@ -5,7 +5,7 @@ use Rattle.deneva_base.specs.declared.causes.Cause.{Cause}
 use Rattle.deneva_base.specs.declared.numbers.Attempt.{Attempt}
 use Rattle.server_core.specs.Aborts.{is_prepare_of, is_vote_of, line_at}
 use Rattle.server_core.specs.Coordinator.{least_hi, greatest_lo}
-use Rattle.server_core.specs.Ends.{attempt}
+use Rattle.server_core.specs.AttemptEnds.{attempt}
 use Rattle.server_core.specs.declared.messages.Entry.{Entry}
 use Rattle.run_outcomes.specs.Seen.{no_of}
 use Rattle.run_outcomes.proofs.Aborting.{found_in, no_told, apart_told}
@@ -36,6 +36,6 @@ returns-in-None c r H k =
     let less = c.if-least_hi-greatest_lo.true in
     let over : ltb (least_hi bs) (greatest_lo bs) ≡ true = grind (arith, nat_tests, lo, hi, less) in
     c.line_at-in-None.ensures
-    ∙ ap₂ (λ (w : Attempt) (x : Cause). line_at w x (option_map (λ (e : Bor Entry). e.now) o)) c.attempt-who.ensures c.apart.ensures
+    ∙ ap₂ (λ (w : Attempt) (x : Cause). line_at w x (option_map (λ (e : Bor Entry). e.now) o)) c.attempt-who.ensures c.apart_cause.ensures
     ∙ apart_told r H t k c.args.turn (option_map (λ (e : Bor Entry). e.now) o) bs t.home (sym c.first_no.ensures ∙ ap no_of c.in-None.is) over refl
     (found_in (λ e. eqb e.node t.home && is_vote_of who e.msg) c.deref-in-None.result.now t.entries.items o voted c.deref-in-None.ensures.value)

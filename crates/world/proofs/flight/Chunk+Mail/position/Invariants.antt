@@ -1,6 +1,6 @@
 use Rattle.std.proofs.Common.{◌≡◌, ℕ, ◌<◌, slice_get, Some}
 use Rattle.server_core.specs.declared.messages.Mail.{Mail}
-use Rattle.world.specs.Replays.{Gives}
+use Rattle.world.specs.Matches.{Gives}
 use Rattle.world.proofs.flight.Chunk+Mail.position.Given as goal
 
 -- none before gives the entry

@@ -1,5 +1,0 @@
-use Rattle.std.proofs.Common.{length}
-use Rattle.run_outcomes.proofs.replies.+has_done.Given as goal
-
-abbrev pub decreases-has_done : goal.decreases-has_done
-decreases-has_done l = length l.messages.now
