@@ -3,7 +3,7 @@ use Rattle.std.proofs.Common.{◌≡◌, ◌∙◌, ℕ, true, ◌&&◌, List, m
 use Rattle.std.specs.Prelude.{nat_le}
 use Rattle.std.specs.List.{list_all}
 use Rattle.std.proofs.lemmas.Bool.{and_parts}
-use Rattle.records.specs.Records.{Record, without_mark, fields_of, lines_of, records_of, text_of}
+use Rattle.records.specs.Lines.{Record, without_mark, fields_of, lines_of, records_of, text_of}
 use Rattle.txn_program.specs.Valid.{IsValid, is_load_of, is_valid_load, is_valid_program}
 use Rattle.txn_program.specs.declared.programs.WorkKind.{WorkKind}
 use Rattle.txn_program.specs.declared.programs.WorkKind.TheVariants as kinds

@@ -37,7 +37,7 @@ use Rattle.workload_text.specs.declared.steps.Placed.{Placed}
 use Rattle.workload_text.specs.Files.{is_short, has_short_keys, AreNumbers, in_order}
 use Rattle.workload_text.specs.Gives.{◌>>=◌}
 use Rattle.workload_text.specs.SortedItems.{by_number}
-use Rattle.records.specs.Records.{Record}
+use Rattle.records.specs.Lines.{Record}
 use Rattle.workload_text.specs.Fields.{number_at, placed_at, text_at, texts_from}
 use Rattle.workload_text.specs.Grammar.{said_by, with_row, read_after, read_on, empty, head_from, read_from_head, workload_from}
 use Rattle.workload_text.specs.Loading.{row_of}

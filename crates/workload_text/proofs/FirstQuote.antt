@@ -6,7 +6,7 @@ use Rattle.std.specs.Option.{option_map}
 use Rattle.std.proofs.Math.Bool.{or_assoc}
 use Rattle.std.proofs.lemmas.Bool.{eqb-true, true≢false}
 use Rattle.std.proofs.lemmas.Option.{none-some}
-use Rattle.records.specs.Records.{Record, has_quote, fields_of}
+use Rattle.records.specs.Lines.{Record, has_quote, fields_of}
 use Rattle.workload_text.specs.Fields.{fault}
 use Rattle.workload_text.specs.Grammar.{quoted_field, quote_from, quote_or}
 use Rattle.workload_text.specs.declared.faults.InputFault.{InputFault}

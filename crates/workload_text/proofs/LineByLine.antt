@@ -1,7 +1,7 @@
 -- The lines of an order's record, one line after another.
 use Rattle.std.proofs.Common.{◌≡◌, ℕ, suc, ◌+◌, ◌-◌, ◌*◌, ◌<◌, List, [], ◌∷◌, ◌++◌, Result, Ok, Err, refl, ap, append_assoc, arith}
 use Rattle.tpcc_rules.specs.declared.programs.Line.{Line}
-use Rattle.records.specs.Records.{Record}
+use Rattle.records.specs.Lines.{Record}
 use Rattle.workload_text.specs.declared.faults.Flaw.{Flaw}
 use Rattle.workload_text.specs.Gives.{◌>>=◌}
 use Rattle.workload_text.specs.Tpcc.{line_at, lines_from}

@@ -10,7 +10,7 @@ use Rattle.workload_text.specs.declared.reading.Progress.{Progress}
 use Rattle.workload_text.specs.declared.reading.Progress.TheVariants.{More, Ended}
 use Rattle.workload_text.specs.declared.said.Said.{Said}
 use Rattle.workload_text.specs.declared.said.Said.TheVariants.{Loads, Sells, Runs, Ends}
-use Rattle.records.specs.Records.{Record, fields_of}
+use Rattle.records.specs.Lines.{Record, fields_of}
 use Rattle.workload_text.specs.Grammar.{said_by, read_after, read_on, at_end}
 use Rattle.workload_text.specs.Reader.{Advances}
 

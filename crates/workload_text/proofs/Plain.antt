@@ -3,7 +3,7 @@ use Rattle.std.proofs.Common.{◌≡◌, ℕ, ◌+◌, Bool, true, false, not, c
 use Rattle.std.specs.List.{list_all, list_any, onto_first, slice_split, filter}
 use Rattle.std.proofs.lemmas.Bool.{and_parts, and_from, or_parts, true≢false}
 use Rattle.txn_program.specs.Valid.{is_plain}
-use Rattle.records.specs.Records.{Record, has_quote, ends_line, fields_of, lines_of, records_of, without_mark}
+use Rattle.records.specs.Lines.{Record, has_quote, ends_line, fields_of, lines_of, records_of, without_mark}
 use Rattle.workload_text.specs.Grammar.{quoted_field, quote_from, quote_or}
 use Rattle.workload_text.specs.declared.faults.InputFault.{InputFault}
 use Rattle.workload_text.proofs.FirstQuote.{quote_in_fields, some_field}

@@ -7,7 +7,7 @@ use Rattle.deneva_base.specs.Rows.{has_key}
 use Rattle.deneva_base.specs.declared.keys.Key.{Key}
 use Rattle.deneva_base.specs.declared.rows.Cell.{Cell}
 use Rattle.deneva_base.specs.declared.rows.Keyed.{Keyed}
-use Rattle.records.specs.Records.{Record}
+use Rattle.records.specs.Lines.{Record}
 use Rattle.tpcc_rules.specs.Items.{has_item}
 use Rattle.tpcc_rules.specs.declared.programs.Item.{Item}
 use Rattle.txn_program.specs.Valid.{is_plain, is_between, is_valid_program}

@@ -6,7 +6,7 @@ use Rattle.std.proofs.lemmas.List.Elements.{All-nil, All-cons}
 use Rattle.std.proofs.lemmas.List.Folds.{list_all-append}
 use Rattle.std.proofs.lemmas.List.Splits.{slice_split_none, slice_split_at}
 use Rattle.txn_program.specs.Valid.{is_plain}
-use Rattle.records.specs.Records.{Record, has_quote, ends_line, fields_of, lines_of, text_of}
+use Rattle.records.specs.Lines.{Record, has_quote, ends_line, fields_of, lines_of, text_of}
 use Rattle.workload_text.specs.Grammar.{quote_from, quote_or}
 use Rattle.workload_text.proofs.Plain.{is_plain_record, is_line}
 use Rattle.workload_text.proofs.FirstQuote.{no_field}

@@ -4,7 +4,7 @@ use Rattle.std.specs.Prelude.{ℤ, pos, int_le, if◌then◌else◌, nat_le, cod
 use Rattle.std.specs.Fmt.{decimal}
 use Rattle.std.specs.List.{list_all, fold}
 use Rattle.std.proofs.lemmas.Bool.{and_parts, and_from, true≢false, lt-leb, eq-eqb, not-true, not_from_false, or_from, or_parts, ne_eqb}
-use Rattle.records.specs.Records.{Record}
+use Rattle.records.specs.Lines.{Record}
 use Rattle.tpcc_rules.specs.Items.{has_item, have_own_numbers}
 use Rattle.tpcc_rules.specs.NewOrders.{includes}
 use Rattle.tpcc_rules.specs.declared.programs.Item.{Item}

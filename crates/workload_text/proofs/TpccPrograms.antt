@@ -6,7 +6,7 @@ use Rattle.std.specs.List.{list_all, flat_map}
 use Rattle.std.proofs.lemmas.Bool.{and_parts, and_from, false≢true, leb-true, lt-leb, le-ltb, eq-eqb, not_from_true, or_from, cases_Bool}
 use Rattle.deneva_base.specs.Rows.{has_key}
 use Rattle.deneva_base.specs.declared.keys.Key.{Key}
-use Rattle.records.specs.Records.{Record}
+use Rattle.records.specs.Lines.{Record}
 use Rattle.tpcc_rules.specs.NewOrders.{is_loaded, stock_of}
 use Rattle.tpcc_rules.specs.Tables.{warehouse_key, district_key, customer_key}
 use Rattle.tpcc_rules.specs.declared.programs.Line.{Line}

@@ -5,7 +5,7 @@ use Rattle.std.specs.List.{list_all}
 use Rattle.std.proofs.lemmas.Bool.{and_parts, and_from, leb-true, eqb-true}
 use Rattle.deneva_base.specs.Rows.{in_key_order}
 use Rattle.deneva_base.specs.declared.rows.Keyed.{Keyed}
-use Rattle.records.specs.Records.{Record}
+use Rattle.records.specs.Lines.{Record}
 use Rattle.tpcc_rules.specs.Items.{have_own_numbers}
 use Rattle.tpcc_rules.specs.Tables.{is_loaded_row}
 use Rattle.txn_program.specs.Valid.{is_plain_cell, is_tpcc_key, is_tpcc_row, is_tpcc_load, is_valid_item, is_valid_program, are_distinct}

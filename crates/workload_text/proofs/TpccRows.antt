@@ -10,7 +10,7 @@ use Rattle.deneva_base.specs.declared.keys.Key.{Key}
 use Rattle.deneva_base.specs.declared.rows.Cell.{Cell}
 use Rattle.deneva_base.specs.declared.rows.Cell.TheVariants.{Num, Text}
 use Rattle.deneva_base.specs.declared.rows.Keyed.{Keyed}
-use Rattle.records.specs.Records.{Record}
+use Rattle.records.specs.Lines.{Record}
 use Rattle.tpcc_rules.specs.Columns.{fits, fits_all, is_credit}
 use Rattle.tpcc_rules.specs.Tables.{is_table, is_loaded_row, loaded_columns}
 use Rattle.tpcc_rules.specs.declared.columns.Column.{Column}

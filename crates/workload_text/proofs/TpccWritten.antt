@@ -16,7 +16,7 @@ use Rattle.tpcc_rules.specs.declared.programs.Item.{Item}
 use Rattle.tpcc_rules.specs.declared.programs.Line.{Line}
 use Rattle.tpcc_rules.specs.declared.programs.NewOrder.{NewOrder}
 use Rattle.tpcc_rules.specs.declared.programs.Payment.{Payment}
-use Rattle.records.specs.Records.{Record}
+use Rattle.records.specs.Lines.{Record}
 use Rattle.txn_program.specs.Valid.{is_plain, is_between, is_plain_cell, is_warehouse, is_district, is_customer, is_item, is_tpcc_key, is_tpcc_row, is_valid_item, is_valid_program, is_valid_payment, is_valid_order, is_line_of_numbers}
 use Rattle.tpcc_rules.specs.Tables.{is_loaded_row}
 use Rattle.txn_program.specs.declared.programs.Program.{Program}

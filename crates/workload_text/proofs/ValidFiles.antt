@@ -39,7 +39,7 @@ use Rattle.workload_text.specs.declared.said.Said.TheVariants.{Loads, Sells, Run
 use Rattle.workload_text.specs.declared.steps.Placed.{Placed}
 use Rattle.workload_text.specs.Files.{IsRising}
 use Rattle.workload_text.specs.Gives.{◌>>=◌}
-use Rattle.records.specs.Records.{Record, records_of}
+use Rattle.records.specs.Lines.{Record, records_of}
 use Rattle.workload_text.specs.Fields.{field_at, number_at, text_at, texts_from}
 use Rattle.workload_text.specs.Grammar.{format_of, ycsb_head, kind_of_format, head_of_format, head_from, kind_of, fields_of_head, said_of_ycsb, said_by, with_row, with_item, with_program, at_end, read_after, read_on, empty, read_from_head, workload_from, quote_from, unless_quoted, workload_of}
 use Rattle.workload_text.specs.SortedItems.{put_item}

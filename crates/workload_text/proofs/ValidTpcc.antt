@@ -11,7 +11,7 @@ use Rattle.deneva_base.specs.declared.keys.Key.{Key}
 use Rattle.deneva_base.specs.declared.rows.Cell.{Cell}
 use Rattle.deneva_base.specs.declared.rows.Keyed.{Keyed}
 use Rattle.deneva_base.proofs.Membership.{any_at, filter_in}
-use Rattle.records.specs.Records.{Record}
+use Rattle.records.specs.Lines.{Record}
 use Rattle.tpcc_rules.specs.Columns.{fits, fits_all, is_credit}
 use Rattle.tpcc_rules.specs.Items.{has_item}
 use Rattle.tpcc_rules.specs.Names.{is_namesake, comes_before, namesakes, by_last_name}

@@ -2,7 +2,7 @@
 use Rattle.std.specs.Prelude.{ℕ, ◌+◌, ◌-◌, ℤ, List, [], ◌∷◌, length, min, if◌then◌else◌, nat_le, slice_index_or, Result, Ok, Err}
 use Rattle.deneva_base.specs.declared.rows.Cell.{Cell}
 use Rattle.deneva_base.specs.declared.rows.Cell.TheVariants.{Text}
-use Rattle.records.specs.Records.{Record}
+use Rattle.records.specs.Lines.{Record}
 use Rattle.workload_text.specs.Gives.{◌>>=◌}
 use Rattle.workload_text.specs.Numbers.{number_in, integer_in}
 use Rattle.workload_text.specs.declared.faults.FaultKind.{FaultKind}

@@ -3,7 +3,7 @@ use Rattle.std.specs.Prelude.{ℕ, ◌+◌, ◌==◌, List, [], ◌∷◌, ◌++
 use Rattle.std.specs.Str.{bytes_eq}
 use Rattle.deneva_base.specs.Rows.{put}
 use Rattle.deneva_base.specs.declared.rows.Keyed.{Keyed}
-use Rattle.records.specs.Records.{Record, records_of, has_quote}
+use Rattle.records.specs.Lines.{Record, records_of, has_quote}
 use Rattle.tpcc_rules.specs.declared.programs.Item.{Item}
 use Rattle.txn_program.specs.declared.programs.Program.{Program}
 use Rattle.txn_program.specs.declared.programs.WorkKind.{WorkKind}

@@ -5,7 +5,7 @@ use Rattle.deneva_base.specs.Rows.{has_key}
 use Rattle.deneva_base.specs.declared.keys.Key.{Key}
 use Rattle.deneva_base.specs.declared.rows.Cell.{Cell}
 use Rattle.deneva_base.specs.declared.rows.Cell.TheVariants.{Num, Text}
-use Rattle.records.specs.Records.{Record}
+use Rattle.records.specs.Lines.{Record}
 use Rattle.tpcc_rules.specs.Columns.{is_credit}
 use Rattle.tpcc_rules.specs.declared.columns.Column.{Column}
 use Rattle.tpcc_rules.specs.declared.columns.Column.TheVariants.{Between, UpTo, Credit, AnyNumber, AnyText}

@@ -4,7 +4,7 @@ use Rattle.std.specs.List.{list_any}
 use Rattle.std.specs.Str.{bytes_eq}
 use Rattle.deneva_base.specs.Rows.{has_key}
 use Rattle.deneva_base.specs.declared.rows.Keyed.{Keyed}
-use Rattle.records.specs.Records.{Record}
+use Rattle.records.specs.Lines.{Record}
 use Rattle.txn_program.specs.Transactions.{ycsb_key}
 use Rattle.txn_program.specs.declared.programs.YcsbPut.{YcsbPut}
 use Rattle.txn_program.specs.declared.programs.YcsbAct.{YcsbAct}

@@ -4,7 +4,7 @@ ghost use Rattle.txn_program.specs.Valid.{IsValid};
 ghost use Rattle.workload_text.specs.Files.{IsRising};
 ghost use Rattle.workload_text.specs.Grammar as grammar;
 ghost use Rattle.workload_text.specs.Reader.{Reads, HeadGives, error_at, work_of};
-ghost use Rattle.records.specs.Records.{fields_of};
+ghost use Rattle.records.specs.Lines.{fields_of};
 
 use crate::faults::{FaultKind, ReadError, RecordError, fault};
 use crate::heads::{Head, head_of};

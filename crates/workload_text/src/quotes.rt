@@ -1,6 +1,6 @@
 //! Quoted fields, which are not read.
 ghost use Rattle.std.specs.Prelude.{◌≡◌, ◌≤◌, min, map, length, IfOk, IfSome};
-ghost use Rattle.records.specs.Records.{has_quote, fields_of};
+ghost use Rattle.records.specs.Lines.{has_quote, fields_of};
 ghost use Rattle.workload_text.specs.Fields.{fault};
 ghost use Rattle.workload_text.specs.Grammar.{quoted_field, quote_from};
 

@@ -1,6 +1,6 @@
 //! The reader of a workload file, record by record.
 ghost use Rattle.std.specs.Prelude.{◌≡◌, ◌<◌, ◌≤◌, ◌^◌, map, length};
-ghost use Rattle.records.specs.Records.{fields_of};
+ghost use Rattle.records.specs.Lines.{fields_of};
 ghost use Rattle.workload_text.specs.Gives.{Gives};
 ghost use Rattle.workload_text.specs.Grammar as grammar;
 ghost use Rattle.workload_text.specs.Reader.{work_of, LineGives};

@@ -1,5 +1,5 @@
 use Rattle.std.proofs.Common.{◌≡◌, ◌+◌, map, drop}
-use Rattle.records.specs.Records.{fields_of}
+use Rattle.records.specs.Lines.{fields_of}
 use Rattle.workload_text.specs.Reader.{work_of}
 use Rattle.workload_text.specs.Grammar as grammar
 use Rattle.workload_text.proofs.lines.read_records.Given as goal

@@ -1,7 +1,7 @@
 use Rattle.std.proofs.Common.{◌≡◌, ◌-◌, ◌<◌, [], length, Some, map, rules, tests, arith, ap, ◌∙◌, sym}
 use Rattle.std.specs.Option.{option_map}
 use Rattle.std.proofs.lemmas.List.{get_or-map}
-use Rattle.records.specs.Records.{fields_of}
+use Rattle.records.specs.Lines.{fields_of}
 use Rattle.workload_text.specs.Fields.{fault}
 use Rattle.workload_text.specs.Grammar.{quoted_field}
 use Rattle.workload_text.specs.declared.faults.FaultKind.TheVariants.{Kind}

@@ -1,7 +1,7 @@
 use Rattle.std.proofs.Common.{rules, tests}
 use Rattle.std.proofs.lemmas.Iterator.{YieldsList-from_slice}
 use Rattle.std.proofs.lemmas.Iterator.Search.{position_from_yields_List}
-use Rattle.records.specs.Records.{has_quote}
+use Rattle.records.specs.Lines.{has_quote}
 use Rattle.workload_text.proofs.FirstQuote.{counted_is}
 use Rattle.workload_text.proofs.quotes.first_quoted.Goals as goal
 

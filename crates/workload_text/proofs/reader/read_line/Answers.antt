@@ -2,7 +2,7 @@ use Rattle.std.proofs.Common.{◌≡◌, ◌≤◌, ℕ, List, map, length, ap, 
 use denote.Ref.{Bor}
 use Rattle.std.proofs.lemmas.List.{length-map}
 use Rattle.std.proofs.lemmas.List.Splits.{length-slice_split}
-use Rattle.records.specs.Records.{fields_of}
+use Rattle.records.specs.Lines.{fields_of}
 use Rattle.workload_text.proofs.reader.read_line.Goals as goal
 
 -- a line has at least one field

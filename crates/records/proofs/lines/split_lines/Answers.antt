@@ -1,8 +1,8 @@
 use Rattle.std.proofs.Common.{Ok, rules, tests}
 use Rattle.std.proofs.lemmas.Iterator.Consumers.{map_from_collect, YieldsList-at, YieldsList-from_filter}
 use Rattle.std.proofs.lemmas.Iterator.Splits.{YieldsList-from_slice_split}
-use Rattle.records.specs.Records.{ends_line, without_mark}
-use Rattle.records.proofs.records.split_lines.Goals as goal
+use Rattle.records.specs.Lines.{ends_line, without_mark}
+use Rattle.records.proofs.lines.split_lines.Goals as goal
 
 pub returns : goal.returns
 returns c =

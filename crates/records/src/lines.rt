@@ -1,6 +1,6 @@
-//! The records of a text, and their fields.
+//! The lines of a text, and their fields, without quotes.
 ghost use Rattle.std.specs.Prelude.{◌≡◌, map, IfOk};
-ghost use Rattle.records.specs.Records.{without_mark, lines_of, fields_of};
+ghost use Rattle.records.specs.Lines.{without_mark, lines_of, fields_of};
 
 use deneva_base::NoMemory;
 use std::alloc::Global;

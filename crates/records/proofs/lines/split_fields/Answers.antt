@@ -1,7 +1,7 @@
 use Rattle.std.proofs.Common.{Ok, rules, tests}
 use Rattle.std.proofs.lemmas.Iterator.Consumers.{map_from_collect}
 use Rattle.std.proofs.lemmas.Iterator.Splits.{YieldsList-from_slice_split}
-use Rattle.records.proofs.records.split_fields.Goals as goal
+use Rattle.records.proofs.lines.split_fields.Goals as goal
 
 pub returns : goal.returns
 returns c = map_from_collect {E = Unit {0}} (Ok c.in_ok-fields.fields) c.in_ok-fields.ensures.ran (YieldsList-from_slice_split _ _ c.args.line.now c.split.ensures.rest c.split.ensures.done c.split.ensures.closure (λ x r q k. search (rules, tests)))
