@@ -112,7 +112,7 @@ module _ (load : Load) where
     is_tpcc_row,
     (and_parts _ _ (and_parts _ _ (and_parts _ _ (and_parts _ _ h).0).0).0).1,
     λ r v.
-        let p = and_parts (is_tpcc_key r.key) (is_loaded_row r.key r.row) (and_parts _ _ v).0 in
+        let p = and_parts (is_tpcc_key r.key) (is_loaded_row r.key r.row) v in
         let t = tpcc_table r.key p.0 in
         (table_row_fits load r.key r.row (loaded_is_table_row r.key r.row p.1), t.1),
   )
