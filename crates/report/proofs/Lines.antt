@@ -2,16 +2,11 @@
 use Rattle.std.proofs.Common.{◌≡◌, ◌∙◌, ℕ, List, [], ◌∷◌, ◌++◌, refl, ap, sym, append_assoc, append-nil}
 use Rattle.std.specs.List.{join_with_byte, flat_map}
 use Rattle.records.specs.Records.{Record, line_of, text_of}
-use Rattle.report.specs.ReportText.{field_texts}
 
 -- the first piece, and each other behind the byte that joins them
 pub joined : (c : ℕ) (w : List ℕ) (more : List (List ℕ)) → join_with_byte c (w ∷ more) ≡ w ++ flat_map (λ bytes. c ∷ bytes) more
 joined c w [] = sym (append-nil w)
 joined c w (f ∷ more) = ap (λ (t : List ℕ). w ++ c ∷ t) (joined c f more)
-
--- a record's line is its first field, the others each after a comma, and a line feed
-pub line_of-cons : (w : List ℕ) (more : Record) → line_of (w ∷ more) ≡ w ++ field_texts more ++ 10 ∷ []
-line_of-cons w more = ap (λ (t : List ℕ). t ++ 10 ∷ []) (joined 44 w more)
 
 pub text_of-append : (rs more : List Record) → text_of (rs ++ more) ≡ text_of rs ++ text_of more
 text_of-append [] more = refl

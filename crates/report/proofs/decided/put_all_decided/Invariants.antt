@@ -2,7 +2,7 @@ use Rattle.std.proofs.Common.{◌≡◌, ◌++◌, drop}
 use Rattle.std.specs.List.{flat_map}
 use Rattle.records.specs.Records.{text_of}
 use Rattle.report.specs.ReportText.{decided_records}
-use Rattle.report.proofs.decided.push_all_decided.Given as goal
+use Rattle.report.proofs.decided.put_all_decided.Given as goal
 
 -- the text so far, and that of what is left
 abbrev pub invariant-loop-decided : goal.invariant-loop-decided
