@@ -36,6 +36,17 @@ fn extend_parts(text: &mut Vec<u8>, numbers: &[u8]) -> Result<(), NoMemory>
     Ok(())
 }
 
+/// Puts the participants at the end.
+fn extend_participants(text: &mut Vec<u8>, parts: &[u8]) -> Result<(), NoMemory>
+    ensures { OnOk result (text.new.items ≡ text.old.items ++ participants_text parts.now) }
+{
+    let Some((first, others)) = parts.split_first() else {
+        return Ok(());
+    };
+    extend_number(text, *first)?;
+    extend_parts(text, others)
+}
+
 /// The record that is being made, which contracts see as the list of its fields.
 #[derive(Drop)]
 pub struct Line {
@@ -118,10 +129,7 @@ impl Line {
         ensures { OnOk result (self.new ≡ self.old ++ participants_text parts.now ∷ []) }
     {
         self.joined.clear();
-        if let Some((first, others)) = parts.split_first() {
-            extend_number(&mut self.joined, *first)?;
-            extend_parts(&mut self.joined, others)?;
-        }
+        extend_participants(&mut self.joined, parts)?;
         self.fields.push(&self.joined)
     }
 }
