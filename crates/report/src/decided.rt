@@ -64,7 +64,7 @@ pub fn put_all_decided(
     line: &mut Line,
     list: &[Decided],
 ) -> Result<RecordText, NoMemory>
-    ensures { IfOk result (λ longer. longer ≡ text ++ text_of (flat_map decided_records list.now)) }
+    ensures { IfOk result (λ longer. longer ≡ text ++ flat_map (λ d. text_of (decided_records d)) list.now) }
 {
     for decided in list {
         text = put_decided(text, line, decided)?;
