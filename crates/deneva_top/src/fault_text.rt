@@ -1,32 +1,31 @@
 //! The lines that tell why a call was refused.
-ghost use Rattle.std.specs.Prelude.{◌≡◌, ◌++◌, IfOk};
+ghost use Rattle.std.specs.Prelude.{◌≡◌, ◌++◌, OnOk, IfOk};
 ghost use Rattle.deneva_top.specs.Calls.{kind_fields, fault_line};
-ghost use Rattle.report.specs.ReportText.{field_texts};
 
 use deneva_base::{ByteList, NoMemory};
-use report::{with_field, with_number_field};
+use report::{Line, write_line};
 use std::alloc::Global;
 use workload_text::{FaultKind, InputFault};
 
-/// The text with the fields that name what is wrong at its end.
-fn with_kind(text: ByteList, kind: FaultKind) -> Result<ByteList, NoMemory>
-    ensures { IfOk result (λ longer. longer ≡ text ++ field_texts (kind_fields kind)) }
+/// Puts the fields that name what is wrong at the end of a record.
+fn push_kind(line: &mut Line, kind: FaultKind) -> Result<(), NoMemory>
+    ensures { OnOk result (line.new ≡ line.old ++ kind_fields kind) }
 {
     match kind {
-        FaultKind::Magic => with_field(text, b"magic"),
-        FaultKind::Kind => with_field(text, b"kind"),
-        FaultKind::Arity => with_field(text, b"arity"),
-        FaultKind::NotANumber => with_field(text, b"notanumber"),
-        FaultKind::OutOfRange => with_field(text, b"outofrange"),
-        FaultKind::UnknownKey => with_field(text, b"unknownkey"),
-        FaultKind::Repeated => with_field(text, b"repeated"),
+        FaultKind::Magic => line.push(b"magic"),
+        FaultKind::Kind => line.push(b"kind"),
+        FaultKind::Arity => line.push(b"arity"),
+        FaultKind::NotANumber => line.push(b"notanumber"),
+        FaultKind::OutOfRange => line.push(b"outofrange"),
+        FaultKind::UnknownKey => line.push(b"unknownkey"),
+        FaultKind::Repeated => line.push(b"repeated"),
         FaultKind::TooMany { limit } => {
-            let text = with_field(text, b"toomany")?;
-            with_number_field(text, limit)
+            line.push(b"toomany")?;
+            line.push_number(limit)
         }
-        FaultKind::NoEnd => with_field(text, b"noend"),
-        FaultKind::Trailing => with_field(text, b"trailing"),
-        FaultKind::TooLong => with_field(text, b"toolong"),
+        FaultKind::NoEnd => line.push(b"noend"),
+        FaultKind::Trailing => line.push(b"trailing"),
+        FaultKind::TooLong => line.push(b"toolong"),
     }
 }
 
@@ -34,10 +33,11 @@ fn with_kind(text: ByteList, kind: FaultKind) -> Result<ByteList, NoMemory>
 pub fn write_fault(alloc: Global, fault: InputFault) -> Result<ByteList, NoMemory>
     ensures { IfOk result (λ text. text ≡ fault_line fault) }
 {
-    let text = ByteList::from_bytes(alloc, b"fault,input")?;
-    let text = with_number_field(text, fault.record_no)?;
-    let text = with_number_field(text, fault.field_no)?;
-    let mut text = with_kind(text, fault.kind)?;
-    text.extend(b"\n")?;
-    Ok(text)
+    let mut line = Line::new(alloc);
+    line.begin(b"fault")?;
+    line.push(b"input")?;
+    line.push_number(fault.record_no)?;
+    line.push_number(fault.field_no)?;
+    push_kind(&mut line, fault.kind)?;
+    write_line(alloc, &line)
 }

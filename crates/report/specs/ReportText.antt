@@ -1,5 +1,5 @@
--- The report of an outcome: its records, their text, and the brief line. Cells are written as they are: no text of a
--- workload holds a comma, a double quote or a line end, so that no field needs quotes.
+-- The report of an outcome: its records, their text, and the brief line. A field that holds a comma, a double quote or a
+-- line end is quoted, and every other stands as it is.
 use Rattle.std.specs.Prelude.{ℕ, Bool, not, List, [], ◌∷◌, ◌++◌, map, length, codes, decimal, true, false}
 use Rattle.std.specs.Fmt.{signed_decimal}
 use Rattle.std.specs.List.{flat_map, count_by, join_with_byte}
@@ -81,10 +81,14 @@ cause_fields (Trimmed key floor) = codes "trimmed" ∷ key_text key ∷ decimal 
 abbrev pub abort_record : AbortLine → Record
 abort_record a = codes "abort" ∷ decimal a.who.txn.0 ∷ decimal a.who.turn ∷ decimal a.place ∷ decimal a.node ∷ cause_fields a.cause
 
+-- how the transactions were run, and over how many partitions
+abbrev pub head_record : Outcome → Record
+head_record o = codes "deneva-report" ∷ codes "1" ∷ kind_word o.kind ∷ decimal o.parts ∷ []
+
 -- the head, the decided transactions with their reads, those given up, the aborted attempts, the last rows, and the end
 abbrev pub report_records : Outcome → List Record
 report_records o =
-    (codes "deneva-report" ∷ codes "1" ∷ kind_word o.kind ∷ decimal o.parts ∷ [])
+    head_record o
     ∷ flat_map decided_records o.decided ++ map giveup_record o.giveups ++ map abort_record o.aborts
     ++ map (row_record (codes "row")) o.rows ++ (codes "end" ∷ []) ∷ []
 
@@ -111,7 +115,3 @@ brief_record o =
 -- the brief line
 abbrev pub brief_text : Outcome → List ℕ
 brief_text o = line_of (brief_record o)
-
--- bytes behind others, each with a comma before it
-abbrev pub field_texts : Record → List ℕ
-field_texts more = flat_map (λ bytes. 44 ∷ bytes) more

@@ -1,74 +1,75 @@
 //! The records of transactions that were given up, and of aborted attempts.
-ghost use Rattle.std.specs.Prelude.{◌≡◌, ◌++◌, ◌∷◌, [], OnOk, map, decimal};
+ghost use Rattle.std.specs.Prelude.{◌≡◌, ◌++◌, ◌∷◌, [], OnOk, IfOk, map, decimal};
 ghost use Rattle.records.specs.Records.{line_of, text_of};
-ghost use Rattle.report.specs.ReportText.{key_text, giveup_record, cause_fields, abort_record, field_texts};
+ghost use Rattle.report.specs.ReportText.{key_text, giveup_record, cause_fields, abort_record};
 
-use crate::fields::{push_attempt, push_field, push_key, push_number_field};
-use deneva_base::{ByteList, Cause, Key, NoMemory};
+use crate::fields::Line;
+use deneva_base::{Cause, Key, NoMemory};
+use records::RecordText;
 use server_core::{AbortLine, Giveup};
 
-fn push_giveup(text: &mut ByteList, giveup: &Giveup) -> Result<(), NoMemory>
-    ensures { OnOk result (text.new ≡ text.old ++ line_of (giveup_record giveup.now)) }
+/// Puts the record of a transaction that was given up at the end.
+fn put_giveup(text: RecordText, line: &mut Line, giveup: &Giveup) -> Result<RecordText, NoMemory>
+    ensures { IfOk result (λ longer. longer ≡ text ++ line_of (giveup_record giveup.now)) }
 {
-    text.extend(b"giveup")?;
-    push_number_field(text, giveup.id.0)?;
-    push_number_field(text, giveup.turns)?;
-    text.extend(b"\n")
+    line.begin(b"giveup")?;
+    line.push_number(giveup.id.0)?;
+    line.push_number(giveup.turns)?;
+    text.put(line.fields())
 }
 
 /// Puts the records of transactions that were given up at the end.
-pub fn push_giveups(text: &mut ByteList, giveups: &[Giveup]) -> Result<(), NoMemory>
-    ensures { OnOk result (text.new ≡ text.old ++ text_of (map giveup_record giveups.now)) }
+pub fn put_giveups(
+    mut text: RecordText,
+    line: &mut Line,
+    giveups: &[Giveup],
+) -> Result<RecordText, NoMemory>
+    ensures { IfOk result (λ longer. longer ≡ text ++ text_of (map giveup_record giveups.now)) }
 {
     for giveup in giveups {
-        push_giveup(text, giveup)?;
+        text = put_giveup(text, line, giveup)?;
     }
-    Ok(())
+    Ok(text)
 }
 
-/// Puts a word, a key and a number, each behind a comma, at the end.
-fn push_keyed_number(
-    text: &mut ByteList,
-    word: &[u8],
-    key: Key,
-    number: u64,
-) -> Result<(), NoMemory>
-    ensures { OnOk result (text.new ≡ text.old ++ field_texts (word.now ∷ key_text key ∷ decimal number ∷ [])) }
+/// Puts a word, a key and a number at the end of a record.
+fn push_keyed_number(line: &mut Line, word: &[u8], key: Key, number: u64) -> Result<(), NoMemory>
+    ensures { OnOk result (line.new ≡ line.old ++ word.now ∷ key_text key ∷ decimal number ∷ []) }
 {
-    push_field(text, word)?;
-    push_key(text, key)?;
-    push_number_field(text, number)
+    line.push(word)?;
+    line.push_key(key)?;
+    line.push_number(number)
 }
 
-/// Puts the fields that tell why an attempt was aborted at the end.
-fn push_cause(text: &mut ByteList, cause: Cause) -> Result<(), NoMemory>
-    ensures { OnOk result (text.new ≡ text.old ++ field_texts (cause_fields cause)) }
+/// Puts the fields that tell why an attempt was aborted at the end of a record.
+fn push_cause(line: &mut Line, cause: Cause) -> Result<(), NoMemory>
+    ensures { OnOk result (line.new ≡ line.old ++ cause_fields cause) }
 {
     match cause {
         Cause::Held { key, by } => {
-            push_field(text, b"held")?;
-            push_key(text, key)?;
-            push_attempt(text, by)
+            line.push(b"held")?;
+            line.push_key(key)?;
+            line.push_attempt(by)
         }
         Cause::Younger { key, by, age } => {
-            push_field(text, b"younger")?;
-            push_key(text, key)?;
-            push_attempt(text, by)?;
-            push_number_field(text, age)
+            line.push(b"younger")?;
+            line.push_key(key)?;
+            line.push_attempt(by)?;
+            line.push_number(age)
         }
-        Cause::Written { key, stamp } => push_keyed_number(text, b"written", key, stamp),
-        Cause::ReadLater { key, stamp } => push_keyed_number(text, b"readlater", key, stamp),
+        Cause::Written { key, stamp } => push_keyed_number(line, b"written", key, stamp),
+        Cause::ReadLater { key, stamp } => push_keyed_number(line, b"readlater", key, stamp),
         Cause::EmptyRange {
             lo,
             lo_key,
             hi,
             hi_by,
         } => {
-            push_field(text, b"emptyrange")?;
-            push_number_field(text, lo)?;
-            push_key(text, lo_key)?;
-            push_number_field(text, hi)?;
-            push_attempt(text, hi_by)
+            line.push(b"emptyrange")?;
+            line.push_number(lo)?;
+            line.push_key(lo_key)?;
+            line.push_number(hi)?;
+            line.push_attempt(hi_by)
         }
         Cause::Apart {
             lo,
@@ -76,35 +77,39 @@ fn push_cause(text: &mut ByteList, cause: Cause) -> Result<(), NoMemory>
             hi,
             hi_part,
         } => {
-            push_field(text, b"apart")?;
-            push_number_field(text, lo)?;
-            push_number_field(text, lo_part)?;
-            push_number_field(text, hi)?;
-            push_number_field(text, hi_part)
+            line.push(b"apart")?;
+            line.push_number(lo)?;
+            line.push_number(lo_part)?;
+            line.push_number(hi)?;
+            line.push_number(hi_part)
         }
-        Cause::Trimmed { key, floor } => push_keyed_number(text, b"trimmed", key, floor),
+        Cause::Trimmed { key, floor } => push_keyed_number(line, b"trimmed", key, floor),
     }
 }
 
 /// Puts the record of an aborted attempt at the end.
-fn push_abort(text: &mut ByteList, abort: &AbortLine) -> Result<(), NoMemory>
-    ensures { OnOk result (text.new ≡ text.old ++ line_of (abort_record abort.now)) }
+fn put_abort(text: RecordText, line: &mut Line, abort: &AbortLine) -> Result<RecordText, NoMemory>
+    ensures { IfOk result (λ longer. longer ≡ text ++ line_of (abort_record abort.now)) }
 {
-    text.extend(b"abort")?;
-    push_number_field(text, abort.who.txn.0)?;
-    push_number_field(text, abort.who.turn)?;
-    push_number_field(text, abort.place)?;
-    push_number_field(text, abort.node)?;
-    push_cause(text, abort.cause)?;
-    text.extend(b"\n")
+    line.begin(b"abort")?;
+    line.push_number(abort.who.txn.0)?;
+    line.push_number(abort.who.turn)?;
+    line.push_number(abort.place)?;
+    line.push_number(abort.node)?;
+    push_cause(line, abort.cause)?;
+    text.put(line.fields())
 }
 
 /// Puts the records of aborted attempts at the end.
-pub fn push_aborts(text: &mut ByteList, aborts: &[AbortLine]) -> Result<(), NoMemory>
-    ensures { OnOk result (text.new ≡ text.old ++ text_of (map abort_record aborts.now)) }
+pub fn put_aborts(
+    mut text: RecordText,
+    line: &mut Line,
+    aborts: &[AbortLine],
+) -> Result<RecordText, NoMemory>
+    ensures { IfOk result (λ longer. longer ≡ text ++ text_of (map abort_record aborts.now)) }
 {
     for abort in aborts {
-        push_abort(text, abort)?;
+        text = put_abort(text, line, abort)?;
     }
-    Ok(())
+    Ok(text)
 }

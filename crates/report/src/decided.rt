@@ -1,68 +1,73 @@
 //! The records of decided transactions.
-ghost use Rattle.std.specs.Prelude.{◌≡◌, ◌++◌, OnOk};
+ghost use Rattle.std.specs.Prelude.{◌≡◌, ◌++◌, OnOk, IfOk};
 ghost use Rattle.std.specs.List.{flat_map};
 ghost use Rattle.records.specs.Records.{line_of, text_of};
-ghost use Rattle.report.specs.ReportText.{reason_fields, ending_record, decided_record, decided_records, field_texts};
+ghost use Rattle.report.specs.ReportText.{reason_fields, decided_record, decided_records};
 
-use crate::fields::{push_field, push_key, push_number_field, push_participants};
-use crate::rows::push_rows;
-use deneva_base::{ByteList, NoMemory};
+use crate::fields::Line;
+use crate::rows::put_rows;
+use deneva_base::NoMemory;
+use records::RecordText;
 use server_core::Decided;
 use txn_program::{Reason, Verdict};
 
-/// Puts the fields that tell why a transaction rolled itself back at the end.
-fn push_reason(text: &mut ByteList, reason: Reason) -> Result<(), NoMemory>
-    ensures { OnOk result (text.new ≡ text.old ++ field_texts (reason_fields reason)) }
+/// Puts the fields that tell why a transaction rolled itself back at the end of a record.
+fn push_reason(line: &mut Line, reason: Reason) -> Result<(), NoMemory>
+    ensures { OnOk result (line.new ≡ line.old ++ reason_fields reason) }
 {
     match reason {
         Reason::UnusedItem { item } => {
-            push_field(text, b"unused")?;
-            push_number_field(text, item)
+            line.push(b"unused")?;
+            line.push_number(item)
         }
         Reason::Range { key } => {
-            push_field(text, b"range")?;
-            push_key(text, key)
+            line.push(b"range")?;
+            line.push_key(key)
         }
     }
 }
 
-/// Puts the record that tells how a transaction ended at the end.
-fn push_ending(text: &mut ByteList, decided: &Decided) -> Result<(), NoMemory>
-    ensures { OnOk result (text.new ≡ text.old ++ line_of (decided_record decided.now)) }
+/// Makes the record that tells how a transaction ended.
+fn write_ending(line: &mut Line, decided: &Decided) -> Result<(), NoMemory>
+    ensures { OnOk result (line.new ≡ decided_record decided.now) }
 {
     match decided.verdict {
         Verdict::Commit => {
-            text.extend(b"commit")?;
-            push_number_field(text, decided.number.n)?;
-            push_number_field(text, decided.number.id.0)?;
-            push_number_field(text, decided.answer)?;
-            push_participants(text, decided.participants.as_slice())?;
+            line.begin(b"commit")?;
+            line.push_number(decided.number.n)?;
+            line.push_number(decided.number.id.0)?;
+            line.push_number(decided.answer)?;
+            line.push_participants(decided.participants.as_slice())
         }
         Verdict::Rollback(reason) => {
-            text.extend(b"rollback")?;
-            push_number_field(text, decided.number.n)?;
-            push_number_field(text, decided.number.id.0)?;
-            push_participants(text, decided.participants.as_slice())?;
-            push_reason(text, reason)?;
+            line.begin(b"rollback")?;
+            line.push_number(decided.number.n)?;
+            line.push_number(decided.number.id.0)?;
+            line.push_participants(decided.participants.as_slice())?;
+            push_reason(line, reason)
         }
     }
-    text.extend(b"\n")
 }
 
 /// Puts the records of a decided transaction at the end: how it ended, and what it read.
-fn push_decided(text: &mut ByteList, decided: &Decided) -> Result<(), NoMemory>
-    ensures { OnOk result (text.new ≡ text.old ++ text_of (decided_records decided.now)) }
+fn put_decided(text: RecordText, line: &mut Line, decided: &Decided) -> Result<RecordText, NoMemory>
+    ensures { IfOk result (λ longer. longer ≡ text ++ text_of (decided_records decided.now)) }
 {
-    push_ending(text, decided)?;
-    push_rows(text, "read", decided.reads.as_slice())
+    write_ending(line, decided)?;
+    let text = text.put(line.fields())?;
+    put_rows(text, line, "read", decided.reads.as_slice())
 }
 
 /// Puts the records of decided transactions at the end.
-pub fn push_all_decided(text: &mut ByteList, list: &[Decided]) -> Result<(), NoMemory>
-    ensures { OnOk result (text.new ≡ text.old ++ text_of (flat_map decided_records list.now)) }
+pub fn put_all_decided(
+    mut text: RecordText,
+    line: &mut Line,
+    list: &[Decided],
+) -> Result<RecordText, NoMemory>
+    ensures { IfOk result (λ longer. longer ≡ text ++ flat_map (λ d. text_of (decided_records d)) list.now) }
 {
     for decided in list {
-        push_decided(text, decided)?;
+        text = put_decided(text, line, decided)?;
     }
-    Ok(())
+    Ok(text)
 }

@@ -1,96 +1,137 @@
 //! The fields of records.
-ghost use Rattle.std.specs.Prelude.{◌≡◌, ◌++◌, ◌∷◌, OnOk, IfOk, map, decimal};
+ghost use Rattle.std.specs.Prelude.{◌≡◌, ◌++◌, ◌∷◌, [], OnOk, map, decimal};
 ghost use Rattle.std.specs.List.{flat_map};
 ghost use Rattle.report.specs.ReportText as spec;
 ghost use Rattle.report.specs.ReportText.{key_text, attempt_text, participants_text};
 
-use deneva_base::{Attempt, ByteList, Key, NoMemory};
+use deneva_base::{Attempt, Key, NoMemory};
 use itoa::{Buffer, Integer};
+use records::RecordFields;
 use server_core::RunKind;
+use std::alloc::Global;
+use std::marker::Model;
 
 /// Puts the text of a number at the end.
-fn push_number<I: Integer>(text: &mut ByteList, number: I) -> Result<(), NoMemory>
-    ensures { OnOk result (text.new ≡ text.old ++ I.text number) }
+fn extend_number<I: Integer>(text: &mut Vec<u8>, number: I) -> Result<(), NoMemory>
+    ensures { OnOk result (text.new.items ≡ text.old.items ++ I.text number) }
 {
-    text.extend(Buffer::new().format(number).as_bytes())
-}
-
-/// Puts a comma and a field at the end of a text: the bytes as they are, which hold no comma, quote or line end.
-pub(crate) fn push_field(text: &mut ByteList, field: &[u8]) -> Result<(), NoMemory>
-    ensures { OnOk result (text.new ≡ text.old ++ 44 ∷ field.now) }
-{
-    text.extend(b",")?;
-    text.extend(field)
-}
-
-/// Puts a comma and a number, in decimal digits, at the end of a text.
-pub(crate) fn push_number_field<I: Integer>(text: &mut ByteList, number: I) -> Result<(), NoMemory>
-    ensures { OnOk result (text.new ≡ text.old ++ 44 ∷ I.text number) }
-{
-    text.extend(b",")?;
-    push_number(text, number)
-}
-
-/// The text with a comma and a field at its end: the bytes as they are, which hold no comma, quote or line end.
-pub fn with_field(mut text: ByteList, field: &[u8]) -> Result<ByteList, NoMemory>
-    ensures { IfOk result (λ longer. longer ≡ text ++ 44 ∷ field.now) }
-{
-    push_field(&mut text, field)?;
-    Ok(text)
-}
-
-/// The text with a comma and a number, in decimal digits, at its end.
-pub fn with_number_field<I: Integer>(mut text: ByteList, number: I) -> Result<ByteList, NoMemory>
-    ensures { IfOk result (λ longer. longer ≡ text ++ 44 ∷ I.text number) }
-{
-    push_number_field(&mut text, number)?;
-    Ok(text)
+    Ok(text.extend_from_slice(Buffer::new().format(number).as_bytes())?)
 }
 
 /// Puts a point and a number at the end.
-fn push_number_part<I: Integer>(text: &mut ByteList, number: I) -> Result<(), NoMemory>
-    ensures { OnOk result (text.new ≡ text.old ++ 46 ∷ I.text number) }
+fn extend_part<I: Integer>(text: &mut Vec<u8>, number: I) -> Result<(), NoMemory>
+    ensures { OnOk result (text.new.items ≡ text.old.items ++ 46 ∷ I.text number) }
 {
-    text.extend(b".")?;
-    push_number(text, number)
+    text.extend_from_slice(b".")?;
+    extend_number(text, number)
 }
 
-/// Puts a comma and a key at the end.
-pub fn push_key(text: &mut ByteList, key: Key) -> Result<(), NoMemory>
-    ensures { OnOk result (text.new ≡ text.old ++ 44 ∷ key_text key) }
-{
-    push_number_field(text, key.table)?;
-    push_number_part(text, key.a)?;
-    push_number_part(text, key.b)?;
-    push_number_part(text, key.c)
-}
-
-/// Puts a comma and an attempt at the end.
-pub fn push_attempt(text: &mut ByteList, who: Attempt) -> Result<(), NoMemory>
-    ensures { OnOk result (text.new ≡ text.old ++ 44 ∷ attempt_text who) }
-{
-    push_number_field(text, who.txn.0)?;
-    push_number_part(text, who.turn)
-}
-
-fn push_number_parts(text: &mut ByteList, numbers: &[u8]) -> Result<(), NoMemory>
-    ensures { OnOk result (text.new ≡ text.old ++ flat_map (λ bytes. 46 ∷ bytes) (map decimal numbers.now)) }
+/// Puts numbers, each behind a point, at the end.
+fn extend_parts(text: &mut Vec<u8>, numbers: &[u8]) -> Result<(), NoMemory>
+    ensures { OnOk result (text.new.items ≡ text.old.items ++ flat_map (λ bytes. 46 ∷ bytes) (map decimal numbers.now)) }
 {
     for number in numbers {
-        push_number_part(text, *number)?;
+        extend_part(text, *number)?;
     }
     Ok(())
 }
 
-/// Puts a comma and the participants at the end.
-pub fn push_participants(text: &mut ByteList, parts: &[u8]) -> Result<(), NoMemory>
-    ensures { OnOk result (text.new ≡ text.old ++ 44 ∷ participants_text parts.now) }
+/// Puts the participants at the end.
+fn extend_participants(text: &mut Vec<u8>, parts: &[u8]) -> Result<(), NoMemory>
+    ensures { OnOk result (text.new.items ≡ text.old.items ++ participants_text parts.now) }
 {
     let Some((first, others)) = parts.split_first() else {
-        return text.extend(b",");
+        return Ok(());
     };
-    push_number_field(text, *first)?;
-    push_number_parts(text, others)
+    extend_number(text, *first)?;
+    extend_parts(text, others)
+}
+
+/// The record that is being made, which contracts see as the list of its fields.
+#[derive(Drop)]
+pub struct Line {
+    fields: RecordFields,
+    /// Where a field of several numbers is joined, so that no record takes memory of its own.
+    joined: Vec<u8>,
+}
+
+impl Model for Line {
+    ghost use Rattle.records.specs.Records.{Record};
+
+    ghost Value = { Record };
+
+    ghost view = { λ line. line.fields };
+}
+
+impl Line {
+    pub fn new(alloc: Global) -> Line
+        ensures { result ≡ [] }
+    {
+        Line {
+            fields: RecordFields::new(alloc),
+            joined: Vec::new(alloc),
+        }
+    }
+
+    /// Its fields.
+    pub fn fields(&self) -> &RecordFields
+        ensures { result.now ≡ self.now }
+    {
+        &self.fields
+    }
+
+    /// Begins the next record with a word.
+    pub fn begin(&mut self, word: &[u8]) -> Result<(), NoMemory>
+        ensures { OnOk result (self.new ≡ word.now ∷ []) }
+    {
+        self.fields.clear();
+        self.fields.push(word)
+    }
+
+    /// Puts a field at the end.
+    pub fn push(&mut self, field: &[u8]) -> Result<(), NoMemory>
+        ensures { OnOk result (self.new ≡ self.old ++ field.now ∷ []) }
+    {
+        self.fields.push(field)
+    }
+
+    /// Puts a number, in decimal digits, at the end.
+    pub fn push_number<I: Integer>(&mut self, number: I) -> Result<(), NoMemory>
+        ensures { OnOk result (self.new ≡ self.old ++ I.text number ∷ []) }
+    {
+        self.fields.push(Buffer::new().format(number).as_bytes())
+    }
+
+    /// Puts a key at the end.
+    pub(crate) fn push_key(&mut self, key: Key) -> Result<(), NoMemory>
+        ensures { OnOk result (self.new ≡ self.old ++ key_text key ∷ []) }
+    {
+        self.joined.clear();
+        extend_number(&mut self.joined, key.table)?;
+        extend_part(&mut self.joined, key.a)?;
+        extend_part(&mut self.joined, key.b)?;
+        extend_part(&mut self.joined, key.c)?;
+        self.fields.push(&self.joined)
+    }
+
+    /// Puts an attempt at the end.
+    pub(crate) fn push_attempt(&mut self, who: Attempt) -> Result<(), NoMemory>
+        ensures { OnOk result (self.new ≡ self.old ++ attempt_text who ∷ []) }
+    {
+        self.joined.clear();
+        extend_number(&mut self.joined, who.txn.0)?;
+        extend_part(&mut self.joined, who.turn)?;
+        self.fields.push(&self.joined)
+    }
+
+    /// Puts the participants at the end.
+    pub(crate) fn push_participants(&mut self, parts: &[u8]) -> Result<(), NoMemory>
+        ensures { OnOk result (self.new ≡ self.old ++ participants_text parts.now ∷ []) }
+    {
+        self.joined.clear();
+        extend_participants(&mut self.joined, parts)?;
+        self.fields.push(&self.joined)
+    }
 }
 
 /// The word of how the transactions were run.

@@ -10,6 +10,6 @@ mod rows;
 mod tests;
 mod texts;
 
-pub use fields::{with_field, with_number_field};
+pub use fields::Line;
 pub use server_core::{AbortLine, Decided, Giveup, Outcome, RunKind};
-pub use texts::{write_brief, write_report};
+pub use texts::{write_brief, write_line, write_report};

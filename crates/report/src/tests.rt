@@ -253,12 +253,47 @@ fn heads_name_the_kind(rt: HostRuntime) -> Result<(), Fail> {
 }
 
 #[test]
-fn fields_stand_behind_commas(rt: HostRuntime) -> Result<(), Fail> {
-    let text = ByteList::from_bytes(rt.alloc(), b"a")?;
-    let text = with_field(text, b"")?;
-    let text = with_field(text, b"bc")?;
-    let text = with_number_field(text, -40_i64)?;
-    let text = with_number_field(text, 0_u8)?;
-    assert_eq!(rt; text.as_slice(), b"a,,bc,-40,0".as_slice());
+fn records_of_any_fields_have_lines(rt: HostRuntime) -> Result<(), Fail> {
+    let mut line = Line::new(rt.alloc());
+    line.begin(b"a")?;
+    line.push(b"")?;
+    line.push(b"b,c")?;
+    line.push_number(-40_i64)?;
+    line.push_number(0_u8)?;
+    assert_eq!(rt;
+        write_line(rt.alloc(), &line)?.as_slice(),
+        b"a,,\"b,c\",-40,0\n".as_slice()
+    );
+    line.begin(b"\"")?;
+    assert_eq!(rt;
+        write_line(rt.alloc(), &line)?.as_slice(),
+        b"\"\"\"\"\n".as_slice()
+    );
+    Ok(())
+}
+
+/// The head, the last rows and the end of an outcome with one row.
+const QUOTED: &str = "deneva-report,1,serial,1
+row,0.3.0.0,\"a,b\",\"say \"\"so\"\"\",\"one\rtwo\",\"\r\n\", bare \t,5
+end
+";
+
+#[test]
+fn cells_of_any_bytes_are_quoted_where_they_must(rt: HostRuntime) -> Result<(), Fail> {
+    let texts = ["a,b", "say \"so\"", "one\rtwo", "\r\n", " bare \t"];
+    let mut cells = CellList::new(rt.alloc());
+    for text in texts {
+        cells.push(Cell::Text(ByteList::from_bytes(rt.alloc(), text.as_bytes())?))?;
+    }
+    cells.push(Cell::Num(5))?;
+    let mut outcome = empty_outcome(rt.alloc(), RunKind::Serial, 1);
+    outcome.rows.push(Keyed {
+        key: key_of(0, 3, 0, 0),
+        row: Row::of(rt.alloc(), cells)?,
+    })?;
+    assert_eq!(rt;
+        write_lines(rt.alloc(), &outcome)?.as_slice(),
+        QUOTED.as_bytes()
+    );
     Ok(())
 }

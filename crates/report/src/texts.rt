@@ -1,33 +1,51 @@
 //! The whole texts.
-ghost use Rattle.std.specs.Prelude.{◌≡◌, IfOk};
+ghost use Rattle.std.specs.Prelude.{◌≡◌, IfOk, OnOk};
+ghost use Rattle.records.specs.Records.{line_of};
 ghost use Rattle.server_core.specs.ReportOrder.{InReportOrder};
 ghost use Rattle.report.specs.ReportText as spec;
-ghost use Rattle.report.specs.ReportText.{report_text, brief_text};
+ghost use Rattle.report.specs.ReportText.{head_record, report_text, brief_text};
 
-use crate::aborts::{push_aborts, push_giveups};
-use crate::decided::push_all_decided;
-use crate::fields::{kind_word, push_field, push_number_field};
-use crate::rows::push_rows;
+use crate::aborts::{put_aborts, put_giveups};
+use crate::decided::put_all_decided;
+use crate::fields::{Line, kind_word};
+use crate::rows::put_rows;
 use deneva_base::{ByteList, NoMemory};
+use records::RecordText;
 use server_core::{Decided, Outcome};
 use std::alloc::Global;
 use txn_program::Verdict;
+
+/// The text of one record.
+pub fn write_line(alloc: Global, line: &Line) -> Result<ByteList, NoMemory>
+    ensures { IfOk result (λ text. text ≡ line_of line.now) }
+{
+    RecordText::new(alloc).put(line.fields())?.finish()
+}
+
+/// Makes the first record of a report.
+fn write_head(line: &mut Line, outcome: &Outcome) -> Result<(), NoMemory>
+    ensures { OnOk result (line.new ≡ head_record outcome.now) }
+{
+    line.begin(b"deneva-report")?;
+    line.push(b"1")?;
+    line.push(kind_word(outcome.kind).as_bytes())?;
+    line.push_number(outcome.parts)
+}
 
 /// The report of an outcome: its head, the decided transactions with what each read, those given up, the aborted
 /// attempts, the final rows, each in the order that the outcome has them, and `end`.
 pub(crate) fn write_lines(alloc: Global, outcome: &Outcome) -> Result<ByteList, NoMemory>
     ensures { IfOk result (λ text. text ≡ report_text outcome.now) }
 {
-    let mut text = ByteList::from_bytes(alloc, b"deneva-report,1")?;
-    push_field(&mut text, kind_word(outcome.kind).as_bytes())?;
-    push_number_field(&mut text, outcome.parts)?;
-    text.extend(b"\n")?;
-    push_all_decided(&mut text, outcome.decided.as_slice())?;
-    push_giveups(&mut text, outcome.giveups.as_slice())?;
-    push_aborts(&mut text, outcome.aborts.as_slice())?;
-    push_rows(&mut text, "row", outcome.rows.as_slice())?;
-    text.extend(b"end\n")?;
-    Ok(text)
+    let mut line = Line::new(alloc);
+    write_head(&mut line, outcome)?;
+    let text = RecordText::new(alloc).put(line.fields())?;
+    let text = put_all_decided(text, &mut line, outcome.decided.as_slice())?;
+    let text = put_giveups(text, &mut line, outcome.giveups.as_slice())?;
+    let text = put_aborts(text, &mut line, outcome.aborts.as_slice())?;
+    let text = put_rows(text, &mut line, "row", outcome.rows.as_slice())?;
+    line.begin(b"end")?;
+    text.put(line.fields())?.finish()
 }
 
 /// The report of an outcome: its head, the decided transactions with what each read, those given up, the aborted
@@ -58,14 +76,14 @@ pub fn write_brief(alloc: Global, outcome: &Outcome) -> Result<ByteList, NoMemor
     ensures { IfOk result (λ text. text ≡ brief_text outcome.now) }
 {
     let commits = commits(outcome.decided.as_slice());
-    let mut text = ByteList::from_bytes(alloc, b"brief")?;
-    push_field(&mut text, kind_word(outcome.kind).as_bytes())?;
-    push_number_field(&mut text, outcome.parts)?;
-    push_number_field(&mut text, commits)?;
-    push_number_field(&mut text, outcome.decided.len() - commits)?;
-    push_number_field(&mut text, outcome.giveups.len())?;
-    push_number_field(&mut text, outcome.aborts.len())?;
-    push_number_field(&mut text, outcome.rows.len())?;
-    text.extend(b"\n")?;
-    Ok(text)
+    let mut line = Line::new(alloc);
+    line.begin(b"brief")?;
+    line.push(kind_word(outcome.kind).as_bytes())?;
+    line.push_number(outcome.parts)?;
+    line.push_number(commits)?;
+    line.push_number(outcome.decided.len() - commits)?;
+    line.push_number(outcome.giveups.len())?;
+    line.push_number(outcome.aborts.len())?;
+    line.push_number(outcome.rows.len())?;
+    write_line(alloc, &line)
 }

@@ -47,6 +47,10 @@ no_transaction = workload (loads 2 (codes "b") ∷ loads 5 (codes "a") ∷ []) [
 abbrev pub one_update : Workload
 one_update = workload (loads 1 (codes "a") ∷ []) (txn (updates 1 (codes "z") ∷ []) ∷ [])
 
+-- the texts hold what ends a field or a record
+abbrev pub quoted_update : Workload
+quoted_update = workload (loads 1 (codes "a,\"b\"\n") ∷ []) (txn (updates 1 (codes ",") ∷ []) ∷ [])
+
 abbrev pub two_updates : Workload
 two_updates = workload (loads 1 (codes "a") ∷ []) (txn (updates 1 (codes "x") ∷ []) ∷ txn (updates 1 (codes "y") ∷ []) ∷ [])
 

@@ -29,7 +29,7 @@ pub use orders::{
 pub use payments::{
     a_balance_out_of_range, a_customer_of_bad_credit, numbers_of_a_payment, sums_at_their_ends,
 };
-pub use plain::{no_transaction, one_update};
+pub use plain::{no_transaction, one_update, quoted_texts};
 pub use premises::{
     a_quiet_run_meets_the_laws, each_voting_protocol_has_quiet_runs, premises_can_be_met,
 };

@@ -3,7 +3,7 @@ ghost use Rattle.std.specs.Prelude.{◌≡◌, codes};
 ghost use Rattle.deneva_base.specs.declared.config.Protocol.TheVariants.{Calvin, Maat, Mvcc, NoWait, Timestamp, WaitDie};
 ghost use Rattle.server_core.specs.declared.schedules.Schedule.TheVariants.{Fifo};
 ghost use Rattle.worked_examples.specs.Reports.{report_of};
-ghost use Rattle.worked_examples.specs.Workloads.{no_transaction, one_update, over};
+ghost use Rattle.worked_examples.specs.Workloads.{no_transaction, one_update, over, quoted_update};
 
 /// Without a transaction the rows are those that were loaded, at one partition and at sixteen.
 pub fn no_transaction()
@@ -31,4 +31,10 @@ pub fn one_update()
         ≡ codes "deneva-report,1,maat,1\ncommit,1,1,0,0\nread,0.1.0.0,a\nrow,0.1.0.0,z\nend\n" }
     ensures calvin { report_of (over Calvin 1) one_update Fifo
         ≡ codes "deneva-report,1,calvin,1\ncommit,1,1,0,0\nread,0.1.0.0,a\nrow,0.1.0.0,z\nend\n" }
+{}
+
+/// Texts with commas, double quotes and line feeds are quoted, and no other field is.
+pub fn quoted_texts()
+    ensures { report_of (over NoWait 1) quoted_update Fifo
+        ≡ codes "deneva-report,1,nowait,1\ncommit,1,1,0,0\nread,0.1.0.0,\"a,\"\"b\"\"\n\"\nrow,0.1.0.0,\",\"\nend\n" }
 {}

@@ -1,6 +1,7 @@
 -- Computed, but for the run and the conclusions, which the laws give.
 use Rattle.std.proofs.Common.{refl, arith, []}
 use Rattle.std.specs.Fmt.{digits}
+use Rattle.csv.specs.Writing.{escaped, fields_text, is_blank}
 use Rattle.txn_program.specs.Valid.{IsValid}
 use Rattle.deneva_base.specs.declared.config.Protocol.TheVariants.{WaitDie}
 use Rattle.server_core.specs.Configs.{IsConfig}
@@ -43,7 +44,7 @@ is_quiet : IsQuiet two_tries three_writers_apart (picked two_tries three_writers
 is_quiet = picked_quiet two_tries three_writers_apart _ refl fit limited Fifo
 
 pub returns : goal.returns
-unfolding digits
+unfolding digits escaped fields_text is_blank
 returns c =
     let H = picked two_tries three_writers_apart Fifo in
     record {

@@ -1,6 +1,7 @@
 -- Computed, but for the setting and what the laws give of it.
 use Rattle.std.proofs.Common.{refl, inl, arith}
 use Rattle.std.specs.Fmt.{digits}
+use Rattle.csv.specs.Writing.{escaped, fields_text, is_blank}
 use Rattle.txn_program.specs.Valid.{IsValid}
 use Rattle.server_core.specs.CalvinProper.{Valid, Forms, Limits}
 use Rattle.server_core.specs.Configs.{IsConfig}
@@ -39,7 +40,7 @@ limited : Limits its_setting
 limited = limits by_calvin two_epochs is_valid in_range
 
 pub returns : goal.returns
-unfolding digits
+unfolding digits escaped fields_text is_blank
 returns c =
     let run = schedule_run its_setting proper (position Fifo) 0 13 (begun by_calvin two_epochs) refl in
     record {

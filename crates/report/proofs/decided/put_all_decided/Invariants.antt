@@ -2,8 +2,9 @@ use Rattle.std.proofs.Common.{◌≡◌, ◌++◌, drop}
 use Rattle.std.specs.List.{flat_map}
 use Rattle.records.specs.Records.{text_of}
 use Rattle.report.specs.ReportText.{decided_records}
-use Rattle.report.proofs.decided.push_all_decided.Given as goal
+use Rattle.report.proofs.decided.put_all_decided.Given as goal
 
 -- the text so far, and that of what is left
 abbrev pub invariant-loop-decided : goal.invariant-loop-decided
-invariant-loop-decided l = l.text ++ text_of (flat_map decided_records (drop l.decided-index l.list)) ≡ l.fn.text ++ text_of (flat_map decided_records l.list)
+invariant-loop-decided l =
+    l.text ++ flat_map (λ d. text_of (decided_records d)) (drop l.decided-index l.list) ≡ l.fn.text ++ flat_map (λ d. text_of (decided_records d)) l.list

@@ -1,7 +1,7 @@
 use Rattle.std.proofs.Common.{◌≡◌, ◌++◌, map, drop}
 use Rattle.records.specs.Records.{text_of}
 use Rattle.report.specs.ReportText.{row_record}
-use Rattle.report.proofs.rows.push_rows.Given as goal
+use Rattle.report.proofs.rows.put_rows.Given as goal
 
 -- the text so far, and that of what is left
 abbrev pub invariant-loop-keyed : goal.invariant-loop-keyed

@@ -1,7 +1,7 @@
 use Rattle.std.proofs.Common.{rules, map, decimal, append_assoc}
 use Rattle.std.proofs.lemmas.Result.{IfOk-equal}
 use Rattle.report.proofs.Lines.{joined}
-use Rattle.report.proofs.fields.push_participants.Goals as goal
+use Rattle.report.proofs.fields.extend_participants.Goals as goal
 
 pub returns : goal.returns
 returns c =

@@ -1,7 +1,7 @@
 use Rattle.std.proofs.Common.{◌≡◌, ◌++◌, map, drop}
 use Rattle.records.specs.Records.{text_of}
 use Rattle.report.specs.ReportText.{giveup_record}
-use Rattle.report.proofs.aborts.push_giveups.Given as goal
+use Rattle.report.proofs.aborts.put_giveups.Given as goal
 
 -- the text so far, and that of what is left
 abbrev pub invariant-loop-giveup : goal.invariant-loop-giveup
