@@ -51,7 +51,7 @@ def told_by_sqlite(report):
             f".import {file.name} report",
             ".mode list",
             ".separator ,",
-            "select " + ", ".join(f"ifnull('x' || hex({name}), '-')" for name in names) + " from report order by rowid;",
+            "select " + ", ".join(f"iif({name} is null, '-', 'x' || hex({name}))" for name in names) + " from report order by rowid;",
         ])
         # a record with fewer fields than columns is padded with a warning
         ended = subprocess.run(["sqlite3", ":memory:"], input=script.encode(), capture_output=True, check=True)
