@@ -166,7 +166,14 @@ fn loads_of_a_file_are_valid(rt: HostRuntime) -> Result<(), Fail> {
         ("a missing cell", 2, [1, 2, 3], 1, b"a".as_slice(), false),
         ("100 bytes", 1, [1, 2, 3], 1, [b'a'; 100].as_slice(), true),
         ("101 bytes", 1, [1, 2, 3], 1, [b'a'; 101].as_slice(), false),
-        ("a comma", 1, [1, 2, 3], 1, b"a,b".as_slice(), false),
+        (
+            "commas, quotes, line ends",
+            1,
+            [1, 2, 3],
+            1,
+            b"a,\"b\"\r\n".as_slice(),
+            true,
+        ),
         ("falling keys", 1, [3, 2, 1], 1, b"a".as_slice(), true),
         ("one key twice", 1, [1, 1, 2], 1, b"a".as_slice(), false),
         (
@@ -240,7 +247,8 @@ fn steps_write_what_fits(rt: HostRuntime) -> Result<(), Fail> {
     for (step, wanted) in [
         (update(alloc, 1, b"z")?, true),
         (update(alloc, 2, b"z")?, false),
-        (update(alloc, 1, b"z\n")?, false),
+        (update(alloc, 1, b"z,\"\r\n")?, true),
+        (update(alloc, 1, [b'z'; 101].as_slice())?, false),
         (put(alloc, 2, b"x")?, true),
         (put(alloc, 1, b"x")?, false),
     ] {
